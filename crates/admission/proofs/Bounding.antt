@@ -3,8 +3,8 @@ use Rattle.std.specs.Prelude.{◌≡◌, ℕ, suc, zero, ◌≤◌, ◌-◌, min
 use Rattle.std.proofs.Common.{sym, ◌∙◌, ap, arith}
 use Rattle.tw_rows.specs.Instant.{inf}
 use Rattle.tw_rows.specs.Rows.{Row}
-use Rattle.line_text.specs.declared.form.Form.{Form}
-use Rattle.line_text.specs.declared.form.Form.TheVariants.{Interval, Start, End}
+use Rattle.row_reader.specs.declared.form.Form.{Form}
+use Rattle.row_reader.specs.declared.form.Form.TheVariants.{Interval, Start, End}
 use Rattle.plan_model.specs.IsPlan.{PlanParts}
 use Rattle.plan_laws.specs.Undefined.{Overflow, overflow}
 use Rattle.row_reader.specs.Entry.{Read}

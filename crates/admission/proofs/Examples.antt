@@ -4,7 +4,7 @@ use Rattle.tw_rows.specs.Instant.{inf}
 use Rattle.tw_rows.specs.Rows.{Row}
 use Rattle.tw_rows.specs.declared.row.Value.TheVariants.{Int}
 use Rattle.tw_rows.specs.declared.schema.StreamDef.{StreamDef}
-use Rattle.line_text.specs.declared.form.Form.TheVariants.{Interval, Start, End}
+use Rattle.row_reader.specs.declared.form.Form.TheVariants.{Interval, Start, End}
 use Rattle.plan_model.specs.declared.node.Node.TheVariants.{Source, Union}
 use Rattle.plan_model.specs.Changes.{Started, Ended, changes_at, changes}
 use Rattle.plan_model.specs.IsPlan.{PlanParts}

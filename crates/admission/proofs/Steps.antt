@@ -13,8 +13,8 @@ use Rattle.tw_rows.proofs.Knowing.{Known-seen}
 use Rattle.tw_rows.proofs.Lives.{AreEvents-append}
 use Rattle.key_nodes.specs.Joins.{with_life}
 use Rattle.key_nodes.proofs.Lives.{AreEvents-flat_map}
-use Rattle.line_text.specs.declared.form.Form.{Form}
-use Rattle.line_text.specs.declared.form.Form.TheVariants.{Interval, Start, End}
+use Rattle.row_reader.specs.declared.form.Form.{Form}
+use Rattle.row_reader.specs.declared.form.Form.TheVariants.{Interval, Start, End}
 use Rattle.plan_model.specs.Keys.{rows_equal}
 use Rattle.plan_model.proofs.NewLives.{AreEvents-with_life}
 use Rattle.row_reader.specs.declared.entry.Entry.{Entry}

@@ -4,8 +4,8 @@ use Rattle.tw_rows.specs.Event.{Event as Lived}
 use Rattle.tw_rows.specs.Instant.{inf}
 use Rattle.tw_rows.specs.Rows.{Row}
 use Rattle.key_nodes.specs.Joins.{with_life}
-use Rattle.line_text.specs.declared.form.Form.{Form}
-use Rattle.line_text.specs.declared.form.Form.TheVariants.{Interval, Start, End}
+use Rattle.row_reader.specs.declared.form.Form.{Form}
+use Rattle.row_reader.specs.declared.form.Form.TheVariants.{Interval, Start, End}
 use Rattle.row_reader.specs.declared.entry.Entry.{Entry}
 use Rattle.row_reader.specs.declared.entry.Entry.TheVariants.{Skip, Punct, Event}
 use Rattle.admission.specs.declared.policy.Admitted.{Admitted}

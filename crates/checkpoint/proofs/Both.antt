@@ -10,7 +10,7 @@ use Rattle.std.proofs.lemmas.List.{take-append-drop}
 use Rattle.tw_rows.specs.Instant.{inf}
 use Rattle.tw_rows.specs.declared.cells.Datum.{Datum}
 use Rattle.tw_rows.specs.declared.kind.CellKind.{CellKind}
-use Rattle.line_text.specs.Fields.{time_text}
+use Rattle.row_reader.specs.FieldTexts.{time_text}
 use Rattle.row_reader.specs.Number.{number_of, same_text}
 use Rattle.row_reader.specs.Fields.{commas}
 use Rattle.row_reader.specs.Values.{both}

@@ -5,7 +5,7 @@ use Rattle.std.specs.List.{list_any}
 use Rattle.std.proofs.lemmas.List.{append-nil}
 use Rattle.std.proofs.lemmas.Bool.Decides.{eqb_tells}
 use Rattle.csv.specs.Writing.{default_writer, needs_byte}
-use Rattle.line_text.proofs.Plain.{IsPlain}
+use Rattle.row_reader.proofs.Plain.{IsPlain}
 use Rattle.row_reader.specs.Fields.{commas, before_first}
 use Rattle.row_reader.proofs.Commas.{NoComma, commas-bare, commas-more}
 use Rattle.checkpoint.specs.Lines.{line_of}

@@ -4,7 +4,7 @@ use Rattle.std.specs.Fmt.{digits}
 use Rattle.hex.specs.Hex.{encode_with}
 use Rattle.tw_rows.specs.Instant.{inf}
 use Rattle.tw_rows.specs.declared.cells.Datum.TheVariants.{Int, Text}
-use Rattle.line_text.specs.Number.{fraction}
+use Rattle.row_reader.specs.NumberTexts.{fraction}
 use Rattle.edge_stream.specs.declared.saved.SavedEntry.{SavedEntry}
 use Rattle.admission.specs.declared.policy.Lateness.TheVariants.{Refuse}
 use Rattle.admission.specs.declared.policy.Policy.{Policy}

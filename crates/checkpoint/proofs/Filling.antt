@@ -5,7 +5,7 @@ use Rattle.std.proofs.lemmas.List.{length-append, take-append-drop}
 use Rattle.std.proofs.lemmas.Grind.{flat_map-append}
 use Rattle.std.proofs.lemmas.List.Folds.{flat_map-map}
 use Rattle.tw_rows.specs.declared.cells.Datum.{Datum}
-use Rattle.line_text.specs.Fields.{time_text}
+use Rattle.row_reader.specs.FieldTexts.{time_text}
 use Rattle.edge_stream.specs.declared.saved.SavedEntry.{SavedEntry}
 use Rattle.frozen_state.specs.declared.owner.Owner.{Owner}
 use Rattle.checkpoint.specs.Lines.{owner_text, datum_text, cell_texts, entry_line}

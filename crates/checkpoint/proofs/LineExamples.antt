@@ -5,7 +5,7 @@ use Rattle.hex.specs.Hex.{encode_with}
 use Rattle.tw_rows.specs.Instant.{inf}
 use Rattle.tw_rows.specs.declared.cells.Datum.{Datum}
 use Rattle.tw_rows.specs.declared.cells.Datum.TheVariants.{Int, Bool as Flag, Text}
-use Rattle.line_text.specs.Number.{fraction}
+use Rattle.row_reader.specs.NumberTexts.{fraction}
 use Rattle.row_reader.specs.Fields.{commas}
 use Rattle.admission.specs.declared.policy.Lateness.TheVariants.{Refuse}
 use Rattle.admission.specs.declared.policy.Policy.{Policy}

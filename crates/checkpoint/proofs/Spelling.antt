@@ -10,10 +10,10 @@ use Rattle.tw_rows.specs.declared.cells.Datum.{Datum}
 use Rattle.tw_rows.specs.declared.cells.Datum.TheVariants.{Int, Bool as Flag, Text}
 use Rattle.tw_rows.specs.declared.kind.CellKind.{CellKind}
 use Rattle.tw_rows.specs.declared.kind.CellKind.TheVariants.{Whole, Bit, Place}
-use Rattle.line_text.specs.Fields.{time_text}
-use Rattle.line_text.specs.Number.{number_text}
-use Rattle.line_text.proofs.Plain.{IsSmall, decimal_plain, number_plain, time_plain}
-use Rattle.line_text.proofs.Digits.{own}
+use Rattle.row_reader.specs.FieldTexts.{time_text}
+use Rattle.row_reader.specs.NumberTexts.{number_text}
+use Rattle.row_reader.proofs.Plain.{IsSmall, decimal_plain, number_plain, time_plain}
+use Rattle.row_reader.proofs.Digits.{own}
 use Rattle.row_reader.specs.Number.{number_of, units_of, same_text, fits_i64}
 use Rattle.row_reader.proofs.Numbers.{number_of-spelled, number_of-is, same_text-Decides}
 use Rattle.row_reader.proofs.Places.{units_of-spelled, units_of-is}

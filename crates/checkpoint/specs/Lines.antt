@@ -8,8 +8,8 @@ use Rattle.tw_rows.specs.declared.cells.Datum.{Datum}
 use Rattle.tw_rows.specs.declared.cells.Datum.TheVariants.{Int, Bool as Flag, Text}
 use Rattle.tw_rows.specs.declared.kind.CellKind.{CellKind}
 use Rattle.tw_rows.specs.declared.kind.CellKind.TheVariants.{Whole, Bit, Place}
-use Rattle.line_text.specs.Fields.{time_text}
-use Rattle.line_text.specs.Number.{number_text}
+use Rattle.row_reader.specs.FieldTexts.{time_text}
+use Rattle.row_reader.specs.NumberTexts.{number_text}
 use Rattle.row_reader.specs.Number.{fits_i64}
 use Rattle.admission.specs.declared.policy.Lateness.{Lateness}
 use Rattle.admission.specs.declared.policy.Lateness.TheVariants as late

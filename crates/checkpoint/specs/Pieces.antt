@@ -1,6 +1,6 @@
 -- The pieces in which a line is appended.
 use Rattle.std.specs.Prelude.{ℕ, List, [], ◌∷◌, codes, decimal}
-use Rattle.line_text.specs.Fields.{time_text}
+use Rattle.row_reader.specs.FieldTexts.{time_text}
 use Rattle.edge_stream.specs.declared.saved.SavedEntry.{SavedEntry}
 use Rattle.frozen_state.specs.declared.owner.Owner.{Owner}
 use Rattle.checkpoint.specs.Lines.{line_of, owner_text}

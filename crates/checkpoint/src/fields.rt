@@ -1,7 +1,7 @@
 // Fields of lines: numbers and times.
 ghost use Rattle.std.specs.Prelude.{◌≡◌, ◌++◌, ◌∷◌, ◌^◌, decimal, OnOk, OnErr, ◌≤◌, vec_capacity};
 ghost use Rattle.row_reader.specs.Number.{number_of};
-ghost use Rattle.line_text.specs.Fields.{time_text};
+ghost use Rattle.row_reader.specs.FieldTexts.{time_text};
 ghost use Rattle.checkpoint.specs.Reading.{instant_of};
 ghost use Rattle.checkpoint.specs.Room.{LacksRoom};
 
@@ -30,7 +30,7 @@ pub fn push_number_field(out: &mut Vec<u8>, number: u64) -> Result<(), Memory>
     push_decimal(out, number)
 }
 
-// Appends the time as a field: what line_text does for it tells nothing of room.
+// Appends the time as a field: what `push_time` of row_reader does for it tells nothing of room.
 fn push_time(out: &mut Vec<u8>, time: Time) -> Result<(), Memory>
     ensures ok { OnOk result (out.new.items ≡ out.old.items ++ time_text time) }
     ensures room { vec_capacity out.old ≤ vec_capacity out.new }

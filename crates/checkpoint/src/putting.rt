@@ -1,8 +1,8 @@
 // Fields put into a short buffer from its end on, the last one first: each is written where it stands, and so a line is
 // appended in few pieces.
 ghost use Rattle.std.specs.Prelude.{◌≡◌, ◌+◌, ◌*◌, ◌≤◌, ◌++◌, ◌∷◌, decimal, drop, length};
-ghost use Rattle.line_text.specs.Number.{number_text};
-ghost use Rattle.line_text.specs.Fields.{time_text};
+ghost use Rattle.row_reader.specs.NumberTexts.{number_text};
+ghost use Rattle.row_reader.specs.FieldTexts.{time_text};
 ghost use Rattle.checkpoint.specs.Lines.{owner_text, datum_text, cell_texts};
 ghost use Rattle.checkpoint.specs.Pieces.{line_head};
 

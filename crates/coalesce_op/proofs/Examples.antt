@@ -4,7 +4,7 @@ use Rattle.tw_rows.specs.SameCells.{same_cells}
 use Rattle.tw_rows.specs.declared.cells.Datum.TheVariants.{Int}
 use Rattle.tw_rows.specs.declared.edge.HeldRow.{HeldRow}
 use Rattle.edge_stream.specs.declared.saved.PartRow.TheVariants.{Left}
-use Rattle.row_queues.specs.Queued.{queue_of}
+use Rattle.synopsis.specs.Queued.{queue_of}
 use Rattle.coalesce_op.specs.Operating.{coalesce_row}
 
 abbrev held : ℕ → ℕ → HeldRow

@@ -23,8 +23,8 @@ use Rattle.plan_model.specs.declared.node.Node.TheVariants.{Coalesce as Coalesce
 use Rattle.plan_laws.specs.Held.{may_hold}
 use Rattle.plan_laws.proofs.Standing.{no_history}
 use Rattle.edge_stream.specs.Standing.{Standing, IsStoredAs, AreStoredAs}
-use Rattle.row_queues.proofs.OpenRows.{queues_are_open}
-use Rattle.row_queues.specs.Queued.{queue_of}
+use Rattle.synopsis.proofs.OpenRows.{queues_are_open}
+use Rattle.synopsis.specs.Queued.{queue_of}
 use Rattle.sweep_laws.specs.Saving.{starts_of, rows_of, is_row_start, may_wait, are_row_starts, may_all_wait}
 use Rattle.sweep_laws.proofs.Stored.{rows_of_starts}
 use Rattle.sweep_sides.specs.Waiting.{queued, AreTimed}

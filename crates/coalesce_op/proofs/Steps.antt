@@ -20,8 +20,8 @@ use Rattle.edge_history.proofs.Retaining.{AreEvents-none_fails}
 use Rattle.edge_history.proofs.Sums.{failing-append}
 use Rattle.edge_history.proofs.Telling.{news_none, news_in_parts, rises_weaker, answer_from}
 use Rattle.key_nodes.specs.Coalesced.{how_often, rows_before}
-use Rattle.row_queues.proofs.Once.{cells_tell}
-use Rattle.row_queues.specs.Queued.{queue_of, rows_at, AreQueues}
+use Rattle.synopsis.proofs.Once.{cells_tell}
+use Rattle.synopsis.specs.Queued.{queue_of, rows_at, AreQueues}
 use Rattle.sweep_laws.specs.Queues.{Cells, rise, fall, open_starts, AreMoves}
 use Rattle.sweep_laws.specs.Sweeps.{is_at, IsPast, StartsAt, IsDue, Tells, IsNext}
 use Rattle.sweep_laws.proofs.Ordering.{order_later}

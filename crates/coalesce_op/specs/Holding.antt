@@ -9,7 +9,7 @@ use Rattle.edge_history.specs.Order.{is_from, IsHistory}
 use Rattle.edge_history.specs.History.{CellEvent, of}
 use Rattle.edge_history.specs.Balance.{Told}
 use Rattle.edge_history.specs.Opens.{singles}
-use Rattle.row_queues.specs.Queued.{AreQueues}
+use Rattle.synopsis.specs.Queued.{AreQueues}
 use Rattle.sweep_laws.specs.Sweeps.{IsDue, Tells}
 use Rattle.coalesce_op.specs.Coalesces.{coalesces}
 

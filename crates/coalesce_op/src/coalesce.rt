@@ -6,9 +6,9 @@ ghost use Rattle.sweep_sides.specs.Sweepers.{new_standing};
 
 use crate::side::CoalesceSide;
 use end_queue::EndQueue;
-use row_queues::RowQueues;
 use std::alloc::Global;
 use sweep_sides::Swept;
+use synopsis::RowQueues;
 use tw_rows::{Kind, Memory};
 
 /// A Coalesce: the rows of its child at each instant, put together into events that depend on those rows alone, whatever

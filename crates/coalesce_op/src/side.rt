@@ -5,7 +5,7 @@ ghost use Rattle.tw_rows.specs.Kinds.{cell_kind_of};
 ghost use Rattle.tw_rows.specs.declared.cells.Datum.{Datum};
 ghost use Rattle.tw_rows.specs.declared.kind.CellKind.{CellKind};
 ghost use Rattle.edge_stream.specs.Entries.{part_of};
-ghost use Rattle.row_queues.specs.Queued.{queue_of};
+ghost use Rattle.synopsis.specs.Queued.{queue_of};
 ghost use Rattle.sweep_sides.specs.Waiting.{queued};
 ghost use Rattle.sweep_sides.specs.Sides.{IsSide};
 ghost use Rattle.sweep_laws.specs.Saving.{rows_of};
@@ -14,9 +14,9 @@ ghost use Rattle.coalesce_op.specs.States.{CoalesceSound};
 use crate::sweep::tell_due;
 use edge_stream::{EdgeList, LoadFault, PartRow, Saved, are_of_parts};
 use end_queue::EndQueue;
-use row_queues::RowQueues;
 use std::alloc::Global;
 use sweep_sides::{Sweep, are_rows, can_wait, load_waiting, save_waiting, take_in};
+use synopsis::RowQueues;
 use tw_rows::{Edge, Kind, Memory, Time};
 
 /// The starts that were emitted and have no end yet, and the pending edges of the child.

@@ -7,15 +7,15 @@ ghost use Rattle.edge_history.specs.Order.{failing};
 ghost use Rattle.edge_history.specs.History.{CellEvent};
 ghost use Rattle.edge_history.specs.Balance.{news};
 ghost use Rattle.edge_history.specs.Opens.{started_rows};
-ghost use Rattle.row_queues.specs.Holding.{AreApart};
-ghost use Rattle.row_queues.specs.Queued.{AreQueues};
+ghost use Rattle.synopsis.specs.Holding.{AreApart};
+ghost use Rattle.synopsis.specs.Queued.{AreQueues};
 ghost use Rattle.sweep_laws.specs.Changes.{TakeAtMost};
 ghost use Rattle.sweep_laws.specs.Sweeps.{is_at, IsDue, Tells};
 ghost use Rattle.coalesce_op.specs.Coalesces.{coalesces};
 ghost use Rattle.coalesce_op.specs.Holding.{CoalesceReached};
 
-use row_queues::{RowQueues, is_few_apart};
 use sweep_sides::{first_instant, next_instant, rest};
+use synopsis::{RowQueues, is_few_apart};
 use tw_rows::{Edge, Memory, Time};
 
 // Goes on past one instant.

@@ -13,7 +13,7 @@ use Rattle.indexmap.specs.IndexMap.{IndexMap}
 use Rattle.tw_rows.specs.SameCells.{same_cells}
 use Rattle.tw_rows.specs.declared.cells.Datum.{Datum}
 use Rattle.tw_rows.specs.declared.edge.Edge.{Edge}
-use Rattle.row_queues.specs.Kept.{times_if, since_at}
+use Rattle.synopsis.specs.Kept.{times_if, since_at}
 use Rattle.egress.specs.Waiting.{items_if, later_in}
 
 module _ {S H : Type 0} (m n : IndexMap (List Datum) (VecDeque ℕ S) H) (C : List Datum → List Datum → Type 0) (D : VecDeque ℕ S → VecDeque ℕ S → Type 0)

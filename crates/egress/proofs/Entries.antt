@@ -20,7 +20,7 @@ use Rattle.edge_history.specs.History.{of}
 use Rattle.edge_history.specs.Balance.{news}
 use Rattle.edge_history.proofs.Sums.{failing-append, failing-filter}
 use Rattle.plan_laws.specs.Places.{read_events, EdgesArePlaced}
-use Rattle.row_queues.specs.Kept.{since_at, EachIsOpen}
+use Rattle.synopsis.specs.Kept.{since_at, EachIsOpen}
 use Rattle.plan_laws.specs.RowCells.{cells_of}
 use Rattle.egress.specs.Kept.{since_in, HasAdded}
 use Rattle.egress.specs.Waiting.{Waiting, edges_if, edges_at, waiting_in, ArePut, SameMoves, WaitingArePlaced}

@@ -22,7 +22,7 @@ use Rattle.edge_history.specs.Order.{failing}
 use Rattle.plan_laws.specs.Places.{AreDistinct, EdgesArePlaced}
 use Rattle.plan_laws.proofs.RowCells.{cells_again}
 use Rattle.plan_model.proofs.InOrder.{same_row, row_itself}
-use Rattle.row_queues.specs.Kept.{since_at}
+use Rattle.synopsis.specs.Kept.{since_at}
 use Rattle.plan_laws.specs.RowCells.{datum_of, cells_of}
 use Rattle.egress.specs.Kept.{is_placed, are_placed, stand_for, since_in, OpensPass}
 

@@ -27,7 +27,7 @@ use Rattle.edge_history.proofs.Sums.{failing-append}
 use Rattle.plan_laws.specs.Places.{read_events, AreDistinct, EdgesArePlaced}
 use Rattle.plan_laws.proofs.Standing.{of_valid}
 use Rattle.plan_model.specs.Opens.{rise, starts_before, ends_before, open_before}
-use Rattle.row_queues.specs.Kept.{since_at}
+use Rattle.synopsis.specs.Kept.{since_at}
 use Rattle.plan_laws.specs.RowCells.{cells_of}
 use Rattle.egress.specs.Kept.{are_placed}
 use Rattle.egress.specs.Waiting.{edges_if, edges_at, waiting_in, SameMoves, WaitingArePlaced}

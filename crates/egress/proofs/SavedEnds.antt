@@ -19,7 +19,7 @@ use Rattle.tw_rows.specs.declared.edge.Edge.{Edge}
 use Rattle.edge_stream.specs.declared.saved.SavedEntry.{SavedEntry}
 use Rattle.edge_history.specs.Order.{failing}
 use Rattle.edge_history.proofs.Sums.{failing-append, failing-parts}
-use Rattle.row_queues.specs.Kept.{times_if}
+use Rattle.synopsis.specs.Kept.{times_if}
 use Rattle.egress.specs.Kept.{OpensPass}
 use Rattle.egress.specs.Saving.{entries_of, starts_of, end_of, ends_of}
 use Rattle.egress.specs.Saved.{entry_at, end_at, count_of, EndAt, Taken, TakenRest}

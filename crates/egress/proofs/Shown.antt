@@ -16,7 +16,7 @@ use Rattle.plan_laws.specs.Places.{AreDistinct}
 use Rattle.plan_model.specs.Changes.{Started, Ended, changes_at}
 use Rattle.egress.specs.declared.moves.Moves.{Moves}
 use Rattle.egress.specs.Instants.{end_lines, start_lines, instant_lines, AreMoves, AreOpen, AreTouched}
-use Rattle.row_queues.specs.Kept.{since_at}
+use Rattle.synopsis.specs.Kept.{since_at}
 use Rattle.egress.specs.Kept.{ends_in, starts_in, rows_of, since_in, KeepCells}
 use Rattle.egress.specs.Print.{line_text, print}
 use Rattle.egress.proofs.Counted.{counted_none, counted_own}

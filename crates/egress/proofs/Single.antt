@@ -22,7 +22,7 @@ use Rattle.plan_model.specs.Opens.{how_often}
 use Rattle.plan_model.specs.Changes.{Started, Ended, changes_at}
 use Rattle.plan_model.proofs.InOrder.{row_itself}
 use Rattle.egress.specs.Instants.{instant_lines, AreMoves, AreOpen, AreTouched}
-use Rattle.row_queues.specs.Kept.{since_at}
+use Rattle.synopsis.specs.Kept.{since_at}
 use Rattle.egress.specs.Kept.{since_in}
 use Rattle.egress.specs.Print.{print}
 use Rattle.egress.specs.Waiting.{SameMoves}

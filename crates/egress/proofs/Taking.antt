@@ -32,7 +32,7 @@ use Rattle.plan_model.specs.Changes.{changes}
 use Rattle.plan_model.specs.ChangeWords.{start_times}
 use Rattle.plan_model.proofs.Counting.{counts, starts_below}
 use Rattle.plan_model.proofs.Steady.{often_same, changes_same}
-use Rattle.row_queues.specs.Kept.{since_at}
+use Rattle.synopsis.specs.Kept.{since_at}
 use Rattle.egress.specs.Kept.{are_placed, since_in}
 use Rattle.egress.specs.Print.{print}
 use Rattle.egress.specs.Reached.{Reached}

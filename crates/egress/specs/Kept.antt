@@ -12,7 +12,7 @@ use Rattle.tw_rows.specs.declared.edge.Edge.{Edge}
 use Rattle.edge_history.specs.Opens.{ended_of, started_of}
 use Rattle.tw_rows.specs.Cells.{read_cells}
 use Rattle.plan_laws.specs.RowCells.{cells_of}
-use Rattle.row_queues.specs.Kept.{since_at}
+use Rattle.synopsis.specs.Kept.{since_at}
 use Rattle.egress.specs.declared.moves.Moves.{Moves}
 
 -- how often a row ends at the instant, and how often it starts; 0 where no moves are of it. Of moves of the row 7 with two

@@ -1,6 +1,6 @@
 -- What one more saved entry leaves of what was taken up.
 use Rattle.edge_stream.specs.declared.saved.SavedEntry.{SavedEntry}
-use Rattle.row_queues.specs.Kept.{EachIsOpen}
+use Rattle.synopsis.specs.Kept.{EachIsOpen}
 use Rattle.egress.specs.Kept.{HasAdded}
 use Rattle.egress.specs.Waiting.{waiting_in, ArePut}
 use Rattle.egress.specs.Saving.{end_of}

@@ -9,7 +9,7 @@ use Rattle.edge_history.specs.Order.{failing, is_from, IsHistory}
 use Rattle.edge_history.specs.History.{CellEvent, of}
 use Rattle.plan_laws.specs.Standing.{StandsRead}
 use Rattle.plan_model.specs.Changes.{changes}
-use Rattle.row_queues.specs.Kept.{since_at, EachIsOpen}
+use Rattle.synopsis.specs.Kept.{since_at, EachIsOpen}
 use Rattle.egress.specs.Kept.{since_in}
 use Rattle.egress.specs.Waiting.{waiting_in, HavePassed, WaitingArePlaced, Swept}
 use Rattle.egress.specs.Print.{print, punctuation_if}

@@ -1,8 +1,8 @@
 -- The bytes of change lines, each value by the kind of its column.
 use Rattle.std.specs.Prelude.{ℕ, Option, None, Some, List, [], codes, flat_map}
 use Rattle.tw_rows.specs.declared.kind.Kind.{Kind}
-use Rattle.line_text.specs.Fields.{start_fields, end_fields, punctuation_fields}
-use Rattle.line_text.specs.Record.{record_text}
+use Rattle.row_reader.specs.FieldTexts.{start_fields, end_fields, punctuation_fields}
+use Rattle.row_reader.specs.RecordTexts.{record_text}
 use Rattle.plan_model.specs.Changes.{Line, Started, Ended}
 
 -- a start line is `out`, `start`, the time, `inf` and the values; an end line is `out`, `end`, the time, the time of the

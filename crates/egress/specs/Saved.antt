@@ -17,7 +17,7 @@ use Rattle.plan_laws.specs.Places.{AreDistinct}
 use Rattle.indexmap.specs.IndexMap.{IndexMap}
 use Rattle.std.specs.declared.collections.VecDeque.{VecDeque}
 use Rattle.tw_rows.specs.declared.kind.Kind.{Kind}
-use Rattle.row_queues.specs.Kept.{since_at}
+use Rattle.synopsis.specs.Kept.{since_at}
 use Rattle.egress.specs.Kept.{since_in, OpensPass}
 use Rattle.egress.specs.Waiting.{Waiting, edges_if, edges_at, SameMoves, Swept, WaitingArePlaced}
 use Rattle.egress.specs.Saving.{starts_of, ends_of}

@@ -18,7 +18,7 @@ use Rattle.plan_model.specs.Opens.{before}
 use Rattle.egress.specs.Instants.{AreOpen}
 use Rattle.indexmap.specs.IndexMap.{IndexMap}
 use Rattle.std.specs.declared.collections.VecDeque.{VecDeque}
-use Rattle.row_queues.specs.Kept.{since_at}
+use Rattle.synopsis.specs.Kept.{since_at}
 use Rattle.plan_laws.specs.RowCells.{cells_of}
 use Rattle.egress.specs.Output.{Holds}
 use Rattle.egress.specs.Showing.{AreNone}

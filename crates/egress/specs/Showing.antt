@@ -16,7 +16,7 @@ use Rattle.edge_history.specs.Order.{failing}
 use Rattle.plan_laws.specs.Places.{read_events}
 use Rattle.plan_model.specs.Changes.{Started, Ended, changes_at}
 use Rattle.egress.specs.Instants.{end_lines, start_lines, AreMoves, AreOpen}
-use Rattle.row_queues.specs.Kept.{since_at, EachIsOpen}
+use Rattle.synopsis.specs.Kept.{since_at, EachIsOpen}
 use Rattle.egress.specs.Kept.{ends_in, starts_in, rows_of, since_in, HasAdded, KeepCells, OpensPass}
 use Rattle.egress.specs.Print.{print}
 use Rattle.egress.specs.Waiting.{SameMoves}

@@ -14,7 +14,7 @@ use crate::saving::{copy_starts, save_rest, save_waiting};
 use crate::waiting::Pending;
 use batch::Pools;
 use edge_stream::{EdgeList, LoadFault, Saved};
-use line_text::push_punctuation;
+use row_reader::push_punctuation;
 use std::alloc::Global;
 use tw_rows::{Edge, Kind, Memory, TextTable, Time};
 

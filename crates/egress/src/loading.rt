@@ -3,7 +3,7 @@ ghost use Rattle.std.specs.Prelude.{◌≡◌, ◌↔◌, ℕ, List, [], ◌∷�
 ghost use Rattle.std.specs.List.Sorted.{IsNonDecreasing};
 ghost use Rattle.tw_rows.specs.Instant.{inf};
 ghost use Rattle.tw_rows.specs.declared.cells.Datum.{Datum as DatumOf};
-ghost use Rattle.row_queues.specs.Kept.{since_at, EachIsOpen};
+ghost use Rattle.synopsis.specs.Kept.{since_at, EachIsOpen};
 ghost use Rattle.egress.specs.Waiting.{waiting_in, ArePut};
 ghost use Rattle.egress.specs.Saving.{starts_of, end_of, ends_of, IsKept, IsSound, MayFollow};
 ghost use Rattle.egress.specs.Loading.{HasTaken};
@@ -11,9 +11,9 @@ ghost use Rattle.egress.specs.Loading.{HasTaken};
 use crate::waiting::Pending;
 use edge_stream::{LoadFault, SavedEntry, is_stored_as};
 use indexmap::IndexMap;
-use row_queues::{Starts, open_row};
 use std::alloc::Global;
 use std::collections::VecDeque;
+use synopsis::{Starts, open_row};
 use tw_rows::{Cells, Edge, Kind, Memory, Time};
 
 // What is kept of entries: the open starts of each row, its ends, and the edges of those that are known.

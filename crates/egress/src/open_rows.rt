@@ -6,10 +6,10 @@ ghost use Rattle.egress.specs.Print.{print, line_text};
 ghost use Rattle.egress.specs.Showing.{EndsRow, StartsRow, AreNone};
 
 use indexmap::IndexMap;
-use line_text::{push_end_line, push_start_line};
-use row_queues::{Starts, open_row, put_back};
+use row_reader::{push_end_line, push_start_line};
 use std::alloc::Global;
 use std::collections::VecDeque;
+use synopsis::{Starts, open_row, put_back};
 use tw_rows::{Cells, Kind, Memory, TextTable, Time};
 
 /// The rows that are open, each with its open starts, the earliest first, and the lines of changes that are not yet

@@ -3,14 +3,14 @@ ghost use Rattle.std.specs.Prelude.{◌≡◌, ◌≤◌, ℕ, List, ◌++◌, c
 ghost use Rattle.std.specs.Option.{option_to_list};
 ghost use Rattle.tw_rows.specs.Instant.{inf};
 ghost use Rattle.tw_rows.specs.declared.cells.Datum.{Datum as DatumOf};
-ghost use Rattle.row_queues.specs.Kept.{since_at};
+ghost use Rattle.synopsis.specs.Kept.{since_at};
 ghost use Rattle.egress.specs.Waiting.{waiting_in};
 ghost use Rattle.egress.specs.Saved.{entry_at, HasDropped, Taken, TakenRest, TakesWaiting};
 
 use crate::waiting::Pending;
 use edge_stream::Saved;
-use row_queues::Starts;
 use std::collections::VecDeque;
+use synopsis::Starts;
 use tw_rows::{Cells, Edge, Memory, Time};
 
 // A copy of the open starts.

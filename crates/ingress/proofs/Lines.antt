@@ -16,8 +16,8 @@ use Rattle.tw_rows.specs.declared.cells.Datum.{Datum}
 use Rattle.tw_rows.specs.declared.edge.Edge.{Edge}
 use Rattle.key_nodes.specs.Joins.{with_life}
 use Rattle.edge_history.specs.History.{CellEvent}
-use Rattle.line_text.specs.declared.form.Form.{Form}
-use Rattle.line_text.specs.declared.form.Form.TheVariants.{Interval, Start, End}
+use Rattle.row_reader.specs.declared.form.Form.{Form}
+use Rattle.row_reader.specs.declared.form.Form.TheVariants.{Interval, Start, End}
 use Rattle.plan_model.specs.Keys.{rows_equal}
 use Rattle.plan_laws.specs.Places.{AreDistinct, read_event, read_events, EventsArePlaced}
 use Rattle.plan_laws.proofs.Places.{wide_reads, cells_wide}

@@ -9,8 +9,8 @@ use Rattle.tw_rows.specs.Event.{Event as Lived}
 use Rattle.tw_rows.specs.Rows.{Row}
 use Rattle.tw_rows.specs.declared.schema.StreamDef.{StreamDef}
 use Rattle.key_nodes.specs.Joins.{with_life}
-use Rattle.line_text.specs.declared.form.Form.{Form}
-use Rattle.line_text.specs.declared.form.Form.TheVariants.{Interval, Start, End}
+use Rattle.row_reader.specs.declared.form.Form.{Form}
+use Rattle.row_reader.specs.declared.form.Form.TheVariants.{Interval, Start, End}
 use Rattle.plan_laws.specs.Times.{TimesUpTo}
 use Rattle.plan_laws.proofs.StepTimes.{up_to_append, up_to_with_life}
 use Rattle.row_reader.specs.Entry.{entry}

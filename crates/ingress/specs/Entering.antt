@@ -6,8 +6,8 @@ use Rattle.tw_rows.specs.declared.cells.Datum.{Datum}
 use Rattle.tw_rows.specs.declared.edge.Edge.{Edge}
 use Rattle.key_nodes.specs.Joins.{with_life}
 use Rattle.edge_history.specs.History.{CellEvent}
-use Rattle.line_text.specs.declared.form.Form.{Form}
-use Rattle.line_text.specs.declared.form.Form.TheVariants.{Interval, Start, End}
+use Rattle.row_reader.specs.declared.form.Form.{Form}
+use Rattle.row_reader.specs.declared.form.Form.TheVariants.{Interval, Start, End}
 use Rattle.admission.specs.Answers.{became}
 use Rattle.admission.specs.declared.policy.Admitted.{Admitted}
 use Rattle.ingress.specs.declared.entering.EventLine.{EventLine}

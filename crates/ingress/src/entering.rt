@@ -11,7 +11,7 @@ use crate::held_streams::{HeldStreams, infinity, is_before};
 use crate::opens::OpenStart;
 use admission::Admitted;
 use batch::Pools;
-use line_text::Form;
+use row_reader::Form;
 use tw_rows::{Datum, Memory, Time};
 
 /// An event line without its row: the times that it says, when it takes effect, and whether it is dropped.

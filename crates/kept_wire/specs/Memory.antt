@@ -1,7 +1,7 @@
 -- A wire over files in memory.
 use Rattle.std.specs.Prelude.{ℕ, ◌+◌, ◌-◌, ◌^◌, ◌++◌, min, List, [], ◌∷◌, length, take, Option}
 use Rattle.wire_lines.specs.Journal.{Entry, In, Out, Did, Start, AtEnd, CutAt, Sync, Keep}
-use Rattle.durable_file.specs.Memory.{MemoryView, started, restarted}
+use Rattle.kept_wire.specs.MediumMemory.{MemoryView, started, restarted}
 use Rattle.kept_wire.specs.declared.memory.Done.{Done}
 use Rattle.kept_wire.specs.declared.memory.Done.TheVariants as done
 

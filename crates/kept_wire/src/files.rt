@@ -1,8 +1,7 @@
 // A wire over the system's files.
 ghost use Rattle.std.specs.Prelude.{◌≡◌, ◌≤◌, ◌<◌, length, IfOk};
 
-use crate::KeptWire;
-use durable_file::{FolderMedium, MediumFailed, ReadFault, counted, folder_of, open, replace};
+use crate::{FolderMedium, KeptWire, MediumFailed, ReadFault, counted, folder_of, open, replace};
 use std::alloc::Global;
 use std::fs::{OpenFile, OpenOptions};
 use std::io::{ErrorKind, Read, Seek, SeekFrom, Write};

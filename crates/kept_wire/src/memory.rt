@@ -1,6 +1,5 @@
 // A wire over files that are in memory, which crashes where it is told to.
-use crate::KeptWire;
-use durable_file::{MediumFailed, MemoryMedium, ReadFault, counted, open, replace};
+use crate::{KeptWire, MediumFailed, MemoryMedium, ReadFault, counted, open, replace};
 use std::alloc::Global;
 use std::marker::Model;
 use wire_lines::{ReadFailed, Wire, WriteFailed};
@@ -61,7 +60,7 @@ impl Model for MemoryFileWire {
 impl MemoryFileWire {
     ghost use Rattle.std.specs.Prelude.{◌≡◌, ◌≤◌, ◌<◌, ◌+◌, ◌-◌, ◌^◌, ◌++◌, ◌∷◌, [], length, take, drop, min, option_map, OnSome, IfSome, IfNone};
     ghost use Rattle.wire_lines.specs.Journal.{In, Out};
-    ghost use Rattle.durable_file.specs.Memory.{left_back};
+    ghost use Rattle.kept_wire.specs.MediumMemory.{left_back};
     ghost use Rattle.kept_wire.specs.Memory.{opened, crashed, killed, entry_of};
 
     /// Reads give the input, `step` bytes at most at a time. The output's file has these bytes. So many reads, writes, starts and
@@ -310,8 +309,8 @@ impl KeptWire for MemoryFileWire {
     ghost use Rattle.std.specs.Prelude.{Some, ◌≡◌, ◌∷◌, [], length, take, IfOk, OnOk, OnErr};
     ghost use Rattle.wire_lines.specs.Journal.{Did, Start, AtEnd, CutAt, Sync, Keep, Adds};
     ghost use Rattle.wire_lines.specs.Faults.{HasCause, IsOther};
-    ghost use Rattle.durable_file.specs.Calls.{Goes};
-    ghost use Rattle.durable_file.specs.Replaced.{HasReplaced};
+    ghost use Rattle.kept_wire.specs.Calls.{Goes};
+    ghost use Rattle.kept_wire.specs.Replaced.{HasReplaced};
     ghost use Rattle.kept_wire.specs.Kept.{HasNotKept};
 
     ghost told = { λ w. Some w.file.told };
@@ -382,7 +381,7 @@ impl KeptWire for MemoryFileWire {
 
 impl MemoryFileWire {
     ghost use Rattle.std.specs.Prelude.{◌≡◌, ◌⊎◌, OnOk, OnErr};
-    ghost use Rattle.durable_file.specs.Replaced.{HasReplaced};
+    ghost use Rattle.kept_wire.specs.Replaced.{HasReplaced};
     ghost use Rattle.kept_wire.specs.Memory.{with_keep};
 
     // FILE is replaced, and that stands in the journal. Out of memory nothing is done.

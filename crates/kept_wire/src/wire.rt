@@ -2,12 +2,12 @@
 ghost use Rattle.std.specs.Prelude.{◌≡◌, ℕ, List, [], ◌∷◌, Option, IfOk, OnOk, OnErr};
 ghost use Rattle.wire_lines.specs.Journal.{Did, Start, AtEnd, CutAt, Sync, Keep, Adds};
 ghost use Rattle.wire_lines.specs.Faults.{HasCause, IsOther};
-ghost use Rattle.durable_file.specs.Calls.{Told, Goes, HasReadCause};
-ghost use Rattle.durable_file.specs.Replaced.{HasReplaced};
-ghost use Rattle.durable_file.specs.Opened.{HasOpened};
+ghost use Rattle.kept_wire.specs.Calls.{Told, Goes, HasReadCause};
+ghost use Rattle.kept_wire.specs.Replaced.{HasReplaced};
+ghost use Rattle.kept_wire.specs.Opened.{HasOpened};
 ghost use Rattle.kept_wire.specs.Kept.{HasNotKept};
 
-use durable_file::{MediumFailed, ReadFault};
+use crate::{MediumFailed, ReadFault};
 use std::alloc::Global;
 use wire_lines::Wire;
 

@@ -23,8 +23,8 @@ use Rattle.edge_history.proofs.Retaining.{AreEvents-none_fails}
 use Rattle.edge_history.proofs.Telling.{news_none, news_in_parts}
 use Rattle.key_nodes.specs.Coalesced.{how_often}
 use Rattle.key_nodes.specs.Tops.{top_rows}
-use Rattle.row_queues.proofs.Once.{cells_tell, either_way}
-use Rattle.row_queues.specs.Queued.{queue_of, rows_at}
+use Rattle.synopsis.proofs.Once.{cells_tell, either_way}
+use Rattle.synopsis.specs.Queued.{queue_of, rows_at}
 use Rattle.synopsis.specs.Held.{key_of, is_of_key}
 use Rattle.sweep_laws.specs.Queues.{AreMoves}
 use Rattle.sweep_laws.specs.Sweeps.{is_at, IsPast, StartsAt, IsDue, Tells, IsNext}

@@ -11,7 +11,7 @@ use Rattle.edge_history.specs.History.{of}
 use Rattle.edge_history.specs.Opens.{opens, singles}
 use Rattle.edge_stream.specs.declared.saved.SavedEntry.{SavedEntry}
 use Rattle.edge_stream.specs.Entries.{part_of, are_of_parts}
-use Rattle.row_queues.specs.Queued.{AreQueues}
+use Rattle.synopsis.specs.Queued.{AreQueues}
 use Rattle.sweep_laws.specs.Saving.{are_row_starts, may_all_wait}
 use Rattle.outer_top.specs.TopEvents.{tops_at, tops}
 

@@ -12,7 +12,7 @@ use Rattle.edge_history.specs.History.{CellEvent}
 use Rattle.edge_history.specs.Opens.{opens}
 use Rattle.key_nodes.specs.Coalesced.{coalesced}
 use Rattle.key_nodes.specs.Tops.{top_rows}
-use Rattle.row_queues.specs.Queued.{AreQueues}
+use Rattle.synopsis.specs.Queued.{AreQueues}
 use Rattle.sweep_laws.specs.Sweeps.{IsDue, Tells}
 use Rattle.outer_top.specs.TopKeys.{TopEntry, kept_rows, value_of, meets, AreTopRows, unsettled}
 

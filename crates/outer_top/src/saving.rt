@@ -6,7 +6,7 @@ ghost use Rattle.tw_rows.specs.Instant.{inf};
 ghost use Rattle.tw_rows.specs.declared.cells.Datum.{Datum};
 ghost use Rattle.tw_rows.specs.declared.kind.CellKind.{CellKind};
 ghost use Rattle.edge_stream.specs.Entries.{entries_of, part_of};
-ghost use Rattle.row_queues.specs.Queued.{queue_of};
+ghost use Rattle.synopsis.specs.Queued.{queue_of};
 ghost use Rattle.sweep_sides.specs.Waiting.{queued};
 ghost use Rattle.sweep_sides.specs.Sides.{IsSide};
 ghost use Rattle.sweep_laws.specs.Saving.{starts_of, rows_of, are_row_starts, HaveBegun};
@@ -18,9 +18,9 @@ use crate::keys::Keys;
 use crate::side::TopSide;
 use crate::tops::Tops;
 use edge_stream::{Saved, are_of_parts, edges_of_part};
-use row_queues::RowQueues;
 use std::alloc::Global;
 use sweep_sides::{are_rows, can_wait, load_waiting};
+use synopsis::RowQueues;
 use tw_rows::{Edge, Kind, Memory, Time};
 
 /// How many rows of all keys there are, or the greatest number that there is room for. It goes from group to group.

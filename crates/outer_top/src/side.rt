@@ -6,9 +6,9 @@ use crate::sweep::sweep;
 use crate::tops::Tops;
 use edge_stream::{EdgeList, LoadFault, PartRow, Saved};
 use end_queue::EndQueue;
-use row_queues::RowQueues;
 use std::alloc::Global;
 use sweep_sides::{Sweep, save_waiting, take_in};
+use synopsis::RowQueues;
 use tw_rows::{Edge, Kind, Memory, Time};
 
 /// The rows that are alive, the open starts of those that are shown, and the pending edges of the child.

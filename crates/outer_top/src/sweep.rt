@@ -16,8 +16,8 @@ ghost use Rattle.outer_top.specs.TopLikes.{IsLike};
 ghost use Rattle.outer_top.specs.Sweeping.{QueuesFit, has_begun};
 
 use crate::tops::Tops;
-use row_queues::RowQueues;
 use sweep_sides::{first_instant, next_instant, rest};
+use synopsis::RowQueues;
 use tw_rows::{Edge, Memory, Time};
 
 // Goes on past one instant.

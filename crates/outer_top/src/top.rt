@@ -7,9 +7,9 @@ ghost use Rattle.sweep_sides.specs.Sweepers.{new_standing};
 use crate::side::TopSide;
 use crate::tops::Tops;
 use end_queue::EndQueue;
-use row_queues::RowQueues;
 use std::alloc::Global;
 use sweep_sides::Swept;
+use synopsis::RowQueues;
 use tw_rows::{Kind, Memory};
 
 /// A Top: of the rows of its child at each instant, for each key, those with the greatest ints in one column: so many of them,

@@ -19,3 +19,11 @@ pub mod ColumnFits
 mod ColumnExamples
 pub mod Typing
 pub mod Fitting
+pub mod Past
+pub mod CutColumns
+pub mod CutSteps
+pub mod Cutting
+pub mod Together
+pub mod Found
+pub mod Numbers
+mod CutExamples

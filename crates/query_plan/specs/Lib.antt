@@ -1,4 +1,5 @@
--- Callers read Planned and Explained, and the laws Draft, Steps and Faults. The others are cited by private contracts.
+-- Callers read Planned and Explained, and the laws Draft, Steps and Faults; and of cuts Cuts, Parts, Choices and Told. The others are
+-- cited by private contracts.
 pub mod Draft
 pub mod Answer
 pub mod Growing
@@ -10,3 +11,7 @@ pub mod Explained
 pub mod Names
 pub mod Types
 pub mod Schemas
+pub mod Cuts
+pub mod Parts
+pub mod Choices
+pub mod Told

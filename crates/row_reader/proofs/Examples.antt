@@ -2,7 +2,7 @@
 use Rattle.std.proofs.Common.{◌≡◌, [], ◌∷◌, Some, None, refl}
 use Rattle.std.specs.Prelude.{codes, pos, negsuc}
 use Rattle.std.specs.Fmt.{digits}
-use Rattle.line_text.specs.Number.{fraction}
+use Rattle.row_reader.specs.NumberTexts.{fraction}
 use Rattle.row_reader.specs.Number.{units_of}
 use Rattle.row_reader.specs.Fields.{commas}
 

@@ -17,3 +17,10 @@ pub mod Drafting
 pub mod Printing
 pub mod OnePass
 pub mod Examples
+pub mod Begin
+pub mod Digits
+pub mod Units
+pub mod Plain
+pub mod Quoted
+pub mod Pieces
+pub mod TextExamples

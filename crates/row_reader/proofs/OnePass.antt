@@ -19,9 +19,9 @@ use Rattle.tw_rows.specs.declared.kind.Kind.{Kind}
 use Rattle.tw_rows.specs.declared.kind.Kind.TheVariants as kinds
 use Rattle.tw_rows.specs.declared.row.Value.TheVariants.{Int, Text}
 use Rattle.tw_rows.specs.declared.schema.ColumnDef.{ColumnDef}
-use Rattle.line_text.proofs.Digits.{own, value-append, AllDigits-append}
-use Rattle.line_text.specs.Fields.{time_text}
-use Rattle.line_text.specs.declared.form.Form.TheVariants as forms
+use Rattle.row_reader.proofs.Digits.{own, value-append, AllDigits-append}
+use Rattle.row_reader.specs.FieldTexts.{time_text}
+use Rattle.row_reader.specs.declared.form.Form.TheVariants as forms
 use Rattle.row_reader.specs.Fields.{commas}
 use Rattle.row_reader.specs.Record.{field_of}
 use Rattle.row_reader.specs.Values.{value_of, form_of, times_of}

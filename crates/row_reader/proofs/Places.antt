@@ -5,9 +5,9 @@ use Rattle.std.specs.Str.Parse.{AllDigits, digits_value, digits_value_after, sig
 use Rattle.std.proofs.lemmas.Bool.Decides.{Decides-ltb, eqb_tells}
 use Rattle.std.proofs.lemmas.Fmt.{digits_decimal, digits_value-decimal, decimal_nonempty}
 use Rattle.std.proofs.lemmas.List.{length-append}
-use Rattle.line_text.specs.Number.{fraction, units_text, number_text}
-use Rattle.line_text.proofs.Digits.{own, digit_is, digits_fraction, value-fraction, value-append, AllDigits-append}
-use Rattle.line_text.proofs.Units.{quotient-le}
+use Rattle.row_reader.specs.NumberTexts.{fraction, units_text, number_text}
+use Rattle.row_reader.proofs.Digits.{own, digit_is, digits_fraction, value-fraction, value-append, AllDigits-append}
+use Rattle.row_reader.proofs.Units.{quotient-le}
 use Rattle.row_reader.specs.Number.{units_of, without_points, fits_i64, same_text}
 use Rattle.row_reader.proofs.Numbers.{same_text-Decides}
 use Rattle.row_reader.proofs.Records.{other}

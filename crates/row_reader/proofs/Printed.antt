@@ -11,9 +11,9 @@ use Rattle.tw_rows.specs.declared.kind.Kind.TheVariants as kinds
 use Rattle.tw_rows.specs.declared.row.Value.{Value}
 use Rattle.tw_rows.specs.declared.row.Value.TheVariants.{Int, Bool as Flag, Text}
 use Rattle.tw_rows.specs.declared.schema.ColumnDef.{ColumnDef}
-use Rattle.line_text.specs.Fields.{value_text, row_texts, time_text, form_text, event_fields, punctuation_fields}
-use Rattle.line_text.specs.declared.form.Form.{Form}
-use Rattle.line_text.specs.declared.form.Form.TheVariants as forms
+use Rattle.row_reader.specs.FieldTexts.{value_text, row_texts, time_text, form_text, event_fields, punctuation_fields}
+use Rattle.row_reader.specs.declared.form.Form.{Form}
+use Rattle.row_reader.specs.declared.form.Form.TheVariants as forms
 use Rattle.row_reader.specs.declared.entry.BadLine.{BadLine}
 use Rattle.row_reader.specs.declared.entry.BadLine.TheVariants.{UnknownKind, WrongFields, BadTime, BadLife}
 use Rattle.row_reader.specs.declared.entry.Entry.{Entry}

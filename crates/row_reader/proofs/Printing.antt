@@ -5,7 +5,7 @@ use Rattle.std.specs.List.{list_any}
 use Rattle.std.proofs.lemmas.Bool.Decides.{eqb_tells}
 use Rattle.std.proofs.lemmas.List.{append-nil}
 use Rattle.csv.specs.Writing.{default_writer, field_text, fields_text, needs_byte, escaped, is_blank}
-use Rattle.line_text.specs.Record.{record_text}
+use Rattle.row_reader.specs.RecordTexts.{record_text}
 use Rattle.row_reader.specs.Spelled.{doubled, IsBare, SpellsField, SpellsFields}
 
 escaped-doubled : (f : List ℕ) → escaped default_writer f ≡ doubled f

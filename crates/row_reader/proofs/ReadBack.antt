@@ -13,11 +13,11 @@ use Rattle.tw_rows.specs.declared.kind.Kind.TheVariants as kinds
 use Rattle.tw_rows.specs.declared.row.Value.{Value}
 use Rattle.tw_rows.specs.declared.row.Value.TheVariants.{Int, Bool as Flag, Text}
 use Rattle.tw_rows.specs.declared.schema.ColumnDef.{ColumnDef}
-use Rattle.line_text.specs.Number.{number_text}
-use Rattle.line_text.specs.Fields.{value_text, row_texts, time_text, form_text, event_fields}
-use Rattle.line_text.specs.declared.form.Form.{Form}
-use Rattle.line_text.specs.declared.form.Form.TheVariants as forms
-use Rattle.line_text.proofs.Digits.{own}
+use Rattle.row_reader.specs.NumberTexts.{number_text}
+use Rattle.row_reader.specs.FieldTexts.{value_text, row_texts, time_text, form_text, event_fields}
+use Rattle.row_reader.specs.declared.form.Form.{Form}
+use Rattle.row_reader.specs.declared.form.Form.TheVariants as forms
+use Rattle.row_reader.proofs.Digits.{own}
 use Rattle.row_reader.specs.declared.entry.Entry.TheVariants.{Punct, Event}
 use Rattle.row_reader.specs.Number.{same_text}
 use Rattle.row_reader.specs.Record.{field_of}

@@ -12,7 +12,7 @@ use Rattle.tw_rows.specs.Cells.{ArePlaced, read_cells, with_row as table_with}
 use Rattle.tw_rows.specs.declared.cells.Datum.{Datum}
 use Rattle.tw_rows.specs.declared.schema.ColumnDef.{ColumnDef}
 use Rattle.tw_rows.specs.declared.schema.StreamDef.{StreamDef}
-use Rattle.line_text.specs.declared.form.Form.{Form}
+use Rattle.row_reader.specs.declared.form.Form.{Form}
 use Rattle.row_reader.specs.declared.entry.Entry.TheVariants.{Skip, Punct, Event}
 use Rattle.row_reader.specs.declared.entry.Said.TheVariants.{Event as SaidEvent}
 use Rattle.row_reader.specs.declared.entry.BadLine.TheVariants.{NotUtf8, StrayReturn, OddQuotes, UnknownStream, UnknownKind, WrongFields, BadTime, BadLife, BadValue}

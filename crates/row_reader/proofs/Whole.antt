@@ -8,9 +8,9 @@ use Rattle.std.proofs.lemmas.Fmt.{digits_decimal, digits_value-decimal, decimal-
 use Rattle.std.proofs.lemmas.List.{length-append, length-drop}
 use Rattle.std.proofs.lemmas.Grind.{pow_more}
 use Rattle.std.proofs.Math.Nat.{pow-le-pow_right}
-use Rattle.line_text.specs.Number.{fraction, units_text, number_text}
-use Rattle.line_text.proofs.Digits.{own, read_digits, HasDigits, length-fraction, digits_fraction, value-fraction}
-use Rattle.line_text.proofs.Units.{quotient-le}
+use Rattle.row_reader.specs.NumberTexts.{fraction, units_text, number_text}
+use Rattle.row_reader.proofs.Digits.{own, read_digits, HasDigits, length-fraction, digits_fraction, value-fraction}
+use Rattle.row_reader.proofs.Units.{quotient-le}
 use Rattle.row_reader.specs.Number.{units_of, number_of, below_zero, above_zero, has_minus, fits_i64}
 use Rattle.row_reader.proofs.Lines.{drop_at}
 use Rattle.row_reader.proofs.Numbers.{number_of-none}

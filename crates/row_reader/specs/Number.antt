@@ -2,7 +2,7 @@
 use Rattle.std.specs.Prelude.{ℕ, ℤ, ◌^◌, Bool, List, [], ◌∷◌, Option, Some, None, if◌then◌else◌, nat_lt, nat_eq, ◌&&◌, ◌==◌, decimal, pos, negsuc, ◌+◌, ◌-◌, length, slice_index}
 use Rattle.std.specs.Cmp.Lexicographic.{pointwise}
 use Rattle.std.specs.Str.Parse.{digits_value, signed_digits_value}
-use Rattle.line_text.specs.Number.{number_text}
+use Rattle.row_reader.specs.NumberTexts.{number_text}
 
 abbrev pub same_text : List ℕ → List ℕ → Bool
 same_text a b = pointwise nat_eq a b

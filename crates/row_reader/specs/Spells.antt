@@ -4,8 +4,8 @@ use Rattle.std.specs.List.{All}
 use Rattle.std.specs.Str.{IsUtf8}
 use Rattle.tw_rows.specs.Rows.{Row}
 use Rattle.tw_rows.specs.declared.schema.StreamDef.{StreamDef}
-use Rattle.line_text.specs.Fields.{event_fields, punctuation_fields}
-use Rattle.line_text.specs.declared.form.Form.{Form}
+use Rattle.row_reader.specs.FieldTexts.{event_fields, punctuation_fields}
+use Rattle.row_reader.specs.declared.form.Form.{Form}
 use Rattle.row_reader.specs.Line.{has_mark}
 use Rattle.row_reader.specs.Spelled.{SpellsFields}
 use Rattle.row_reader.specs.Printed.{kinds_of, IsRowOf, AreTimes, IsEnd}

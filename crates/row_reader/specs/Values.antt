@@ -6,8 +6,8 @@ use Rattle.tw_rows.specs.declared.kind.Kind.TheVariants as kinds
 use Rattle.tw_rows.specs.declared.row.Value.{Value}
 use Rattle.tw_rows.specs.declared.row.Value.TheVariants.{Int, Bool as Flag, Text}
 use Rattle.row_reader.specs.Number.{number_of, units_of, same_text}
-use Rattle.line_text.specs.declared.form.Form.{Form}
-use Rattle.line_text.specs.declared.form.Form.TheVariants as forms
+use Rattle.row_reader.specs.declared.form.Form.{Form}
+use Rattle.row_reader.specs.declared.form.Form.TheVariants as forms
 
 -- a time that an event may have: below 2 ^ 60
 abbrev pub time_of : List ℕ → Option ℕ

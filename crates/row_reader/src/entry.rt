@@ -2,7 +2,7 @@
 ghost use Rattle.std.specs.Prelude.{◌≡◌};
 ghost use Rattle.row_reader.specs.declared.entry.RowFault.TheVariants as faults;
 
-use line_text::Form;
+use crate::Form;
 use std::alloc::{AllocError, AllocFailed};
 use tw_rows::{Memory, Row, Time};
 

@@ -12,11 +12,11 @@ ghost use Rattle.row_reader.specs.Fields.{commas, left};
 ghost use Rattle.row_reader.specs.Interned.{IsReadIn};
 ghost use Rattle.row_reader.specs.declared.fields.Fields.TheVariants.{Plain};
 
+use crate::Form;
 use crate::entry::{RowFault, Said};
 use crate::fields::{Fields, split_field};
 use crate::number::leading_number;
 use crate::value::{as_text, place_texts, read_value};
-use line_text::Form;
 use tw_rows::{ColumnDef, Datum, Kind, Memory, TextTable, Time};
 
 // The times of an interval, and what is left of its line: its values.

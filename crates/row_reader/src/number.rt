@@ -2,7 +2,7 @@
 ghost use Rattle.std.specs.Prelude.{◌≡◌, ◌++◌, ◌∷◌, ◌^◌, ◌<◌, ◌≤◌, ℕ, List, IfSome, IfNone, length, take, decimal, IsTrue, false};
 ghost use Rattle.std.specs.Char.{digit_value};
 ghost use Rattle.std.specs.Str.Parse.{AllDigits, digits_value_after};
-ghost use Rattle.line_text.specs.Number.{units_text};
+ghost use Rattle.row_reader.specs.NumberTexts.{units_text};
 ghost use Rattle.row_reader.specs.Number.{units_of, number_of, below_zero, above_zero, has_minus};
 
 fn is_digit(byte: u8) -> bool

@@ -11,9 +11,9 @@ ghost use Rattle.row_reader.specs.Drafted.{value_in, row_in, HaveNoText};
 ghost use Rattle.row_reader.specs.Fields.{left};
 ghost use Rattle.row_reader.specs.Values.{time_of, end_of, inf_of, form_of, times_of, is_alive, value_of};
 
+use crate::Form;
 use crate::fields::Fields;
 use crate::number::{read_number, read_places};
-use line_text::Form;
 use tw_rows::{Datum, Kind, Memory, TextTable, Time};
 
 #[tactic(auto, unfolding(tw_rows::specs::Instant::inf))]

@@ -25,4 +25,4 @@ pub use starts::put_starts;
 pub use sweep::Sweep;
 pub use swept::Swept;
 pub use taking::{let_go, take_in, take_into};
-pub use waiting::{put_all, take_due};
+pub use waiting::{put_all, put_edge, put_singles, take_due};

@@ -10,7 +10,7 @@ ghost use Rattle.edge_stream.specs.Entries.{entries_of, part_of, saved_edge};
 ghost use Rattle.sweep_laws.specs.Saving.{store_all, starts_of, rows_of, is_row_start, may_wait, are_row_starts, may_all_wait};
 ghost use Rattle.sweep_sides.specs.Waiting.{queued, AreTimed};
 
-use crate::waiting::put;
+use crate::waiting::put_edge;
 use edge_stream::{Saved, SavedEntry, edges_of_part, is_stored_as, save_edges};
 use end_queue::EndQueue;
 use std::alloc::Global;
@@ -206,7 +206,7 @@ fn queue_of(alloc: Global, edges: &[Edge]) -> Result<EndQueue, Memory>
 {
     let mut queue = EndQueue::new(alloc);
     for edge in edges {
-        put(&mut queue, edge.clone()?)?;
+        put_edge(&mut queue, edge.clone()?)?;
     }
     Ok(queue)
 }

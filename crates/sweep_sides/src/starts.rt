@@ -8,7 +8,7 @@ ghost use Rattle.sweep_sides.specs.Waiting.{queued, AreTimed};
 ghost use Rattle.sweep_sides.specs.Starts.{start_in, starts_in};
 ghost use Rattle.sweep_laws.specs.Changes.{TakeIn};
 
-use crate::waiting::put;
+use crate::waiting::put_edge;
 use edge_stream::EdgeList;
 use end_queue::EndQueue;
 use tw_rows::{Edge, Memory, Time};
@@ -26,7 +26,7 @@ fn put_start(queue: &mut EndQueue, edge: Edge) -> Result<(), Memory>
         other: Time::bounds().1,
         cells: edge.cells,
     };
-    put(queue, start)?;
+    put_edge(queue, start)?;
     Ok(())
 }
 

@@ -11,7 +11,7 @@ ghost use Rattle.sweep_sides.specs.Waiting.{queued, AreTimed};
 ghost use Rattle.sweep_sides.specs.Ends.{end_of, ends_of, weight, HaveStarts, KeepsStarts};
 
 use crate::endings::{Ending, Endings};
-use crate::waiting::{is_single, put, put_singles};
+use crate::waiting::{is_single, put_edge, put_singles};
 use edge_stream::EdgeList;
 use end_queue::EndQueue;
 use std::alloc::Global;
@@ -75,7 +75,7 @@ fn put_end(queue: &mut EndQueue, due: &[Edge], end: Ending) -> Result<(), Memory
     ensures timed { OnOk result (AreTimed queue.old → AreTimed queue.new) }
 {
     let edge = end_edge(due, end)?;
-    put(queue, edge)?;
+    put_edge(queue, edge)?;
     Ok(())
 }
 

@@ -24,8 +24,8 @@ pub(crate) fn is_single(edge: &Edge) -> bool
     edge.is_end() || edge.other == Time::INF
 }
 
-// Puts an edge, which is pending until its sync is due.
-pub(crate) fn put(queue: &mut EndQueue, edge: Edge) -> Result<(), Memory>
+/// Puts an edge, which is pending until its sync is due.
+pub fn put_edge(queue: &mut EndQueue, edge: Edge) -> Result<(), Memory>
     ensures put { OnOk result ((w : Edge → ℕ) →
         total w (queued queue.new) ≡ total w (queued queue.old) + w edge) }
     ensures timed { OnOk result (AreTimed queue.old → AreTimed queue.new) }
@@ -34,14 +34,14 @@ pub(crate) fn put(queue: &mut EndQueue, edge: Edge) -> Result<(), Memory>
     Ok(())
 }
 
-// Puts an edge: of an interval its start and its end.
+/// Puts an edge: of an interval its start and its end, each of which is pending until its sync is due.
 #[inline(never)]
-pub(crate) fn put_singles(queue: &mut EndQueue, edge: Edge) -> Result<(), Memory>
+pub fn put_singles(queue: &mut EndQueue, edge: Edge) -> Result<(), Memory>
     ensures put { OnOk result (TakeIn (queued queue.old) (queued queue.new) (singles_of edge)) }
     ensures timed { OnOk result (AreTimed queue.old → AreTimed queue.new) }
 {
     if is_single(&edge) {
-        put(queue, edge)?;
+        put_edge(queue, edge)?;
         return Ok(());
     }
     let end = Edge {
@@ -54,8 +54,8 @@ pub(crate) fn put_singles(queue: &mut EndQueue, edge: Edge) -> Result<(), Memory
         other: Time::bounds().1,
         cells: edge.cells,
     };
-    put(queue, start)?;
-    put(queue, end)?;
+    put_edge(queue, start)?;
+    put_edge(queue, end)?;
     Ok(())
 }
 

@@ -2,15 +2,13 @@
 #![tactic(auto)]
 
 use command_line::{Keeping, WordsFault, as_texts, read_words};
-use durable_file::FolderMedium;
-use kept_run::run_kept;
-use kept_wire::FileWire;
+use kept_wire::{FileWire, FolderMedium};
 use shard_apply::OpenGate;
 use std::alloc::AllocError;
 use std::io::{ErrorKind, Stderr, Stdin, Stdout};
 use std::process::ExitCode;
 use std::{env, fs};
-use tempo_cli::{Status, note, run};
+use tempo_cli::{Status, note, run, run_kept};
 use wire_lines::{ErrWire, StdWire};
 
 // The words of the command line. Where one is not UTF-8 none of them is ours, and there are none.

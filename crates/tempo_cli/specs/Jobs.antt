@@ -12,7 +12,7 @@ use Rattle.query_text.specs.IsParse.{Spells, IsSmallText, IsTextFault}
 use Rattle.query_text.specs.declared.query.Query.{Query}
 use Rattle.query_plan.specs.Planned.{planned}
 use Rattle.query_plan.specs.Explained.{explained}
-use Rattle.plan_cuts.specs.Told.{cut_text}
+use Rattle.query_plan.specs.Told.{cut_text}
 use Rattle.command_line.specs.Words.{Asked, SpellsCommand, are_taken}
 use Rattle.command_line.specs.declared.words.Mode.{Mode}
 use Rattle.command_line.specs.declared.words.Mode.TheVariants.{Run, Freeze, Resume, Explain, Cut, Sample}

@@ -1,5 +1,6 @@
 -- Callers read Answers, Told, Table, Resumed, Freezing, Restoring, Summing, Jobs, Holding and Status, and of Feeding and Halting what a
--- run that keeps its state says too. Only private contracts cite Working, Sampled and Restored.
+-- run that keeps its state says too; and of such runs Keeping, what one has done, KeptStatus, how it ends, and Unbroken, runs that
+-- crashes ended. Only private contracts cite Working, Sampled, Restored and Standing.
 pub mod Answers
 pub mod Told
 pub mod Table
@@ -15,3 +16,7 @@ pub mod Holding
 pub mod Sampled
 pub mod Restored
 pub mod Halting
+pub mod Keeping
+pub mod Standing
+pub mod KeptStatus
+pub mod Unbroken

@@ -3,7 +3,7 @@ use Rattle.std.specs.Prelude.{◌≡◌, ◌⊎◌, ℕ, List, [], ◌∷◌, �
 use Rattle.std.specs.List.{All}
 use Rattle.wire_lines.specs.Faults.{Rose}
 use Rattle.wire_lines.specs.Journal.{Entry, outs, IsOut, SentAll, SentFront}
-use Rattle.line_text.specs.Fields.{time_text}
+use Rattle.row_reader.specs.FieldTexts.{time_text}
 use Rattle.plan_model.specs.declared.fault.QueryFault.{QueryFault}
 use Rattle.plan_model.specs.declared.fault.QueryFault.TheVariants.{Syntax, LongExpr, TooLarge, UnknownName, TypeClash}
 use Rattle.plan_model.specs.declared.fault.QueryFault.TheVariants.{NotEventLevel, BadWindow, ReachTooLong, TooManyNodes}

@@ -2,7 +2,7 @@
 ghost use Rattle.std.specs.Prelude.{◌≡◌, ◌++◌, OnOk, OnErr, IfSome, IfNone, Some, None, codes, decimal, map};
 ghost use Rattle.wire_lines.specs.Journal.{Grows, SentAll, SentFront};
 ghost use Rattle.wire_lines.specs.Faults.{HasCause};
-ghost use Rattle.line_text.specs.Fields.{time_text as text_of_time};
+ghost use Rattle.row_reader.specs.FieldTexts.{time_text as text_of_time};
 ghost use Rattle.tempo_cli.specs.Status.{cause_words, cause_place, fault_words, fault_place};
 ghost use Rattle.tempo_cli.specs.Status.{place_text as text_of_place, note_of, joined_pieces};
 ghost use Rattle.tempo_cli.specs.Status.{IsNoted};

@@ -15,9 +15,8 @@ use crate::resuming::resume;
 use crate::sampling::sum_up;
 use crate::status::Status;
 use command_line::{CommandLine, Mode, WordsFault, read_words};
-use plan_cuts::cut_text;
 use plan_model::{Plan, QueryError};
-use query_plan::{explain, plan};
+use query_plan::{cut_text, explain, plan};
 use query_text::parse;
 use sample_trades::Sample;
 use shard_apply::Gate;
@@ -170,7 +169,7 @@ fn tell_refusal<N: Wire>(notes: &mut N, text: &Option<String>)
     }
 }
 
-/// What the program does where `--checkpoint` is not among the words. Where it is, `main` calls `run_kept` of `kept_run`; this call
+/// What the program does where `--checkpoint` is not among the words. Where it is, `main` calls `run_kept`; this call
 /// would run as without it.
 ///
 /// `words` are the words of the command line, the program's name first. Bytes come in and go out over `wire`, and what is

@@ -5,8 +5,7 @@ ghost use Rattle.tw_rows.specs.Cells.{datum_kind};
 ghost use Rattle.tw_rows.specs.Instant.{inf};
 ghost use Rattle.tw_rows.specs.declared.edge.Edge.{Edge};
 ghost use Rattle.tw_rows.specs.declared.edge.HeldRow.{HeldRow};
-ghost use Rattle.edge_history.specs.Balance.{is_single as single};
-ghost use Rattle.edge_history.specs.Opens.{singles, singles_of};
+ghost use Rattle.edge_history.specs.Opens.{singles};
 ghost use Rattle.edge_stream.specs.Entries.{entries_of};
 ghost use Rattle.sweep_laws.specs.Changes.{TakeIn};
 ghost use Rattle.sweep_laws.specs.Saving.{starts_of};
@@ -17,17 +16,9 @@ use crate::lives::{Life, Lives};
 use edge_stream::{Cursor, Saved, save_edges};
 use end_queue::EndQueue;
 use std::alloc::Global;
-use sweep_sides::{save_block, save_rows, save_waiting};
+use sweep_sides::{put_edge, put_singles, save_block, save_rows, save_waiting};
 use synopsis::Synopsis;
 use tw_rows::{Edge, HeldRow, Memory, Time};
-
-// Whether the edge tells of a start or of an end, and not of both.
-#[tactic(auto, unfolding(tw_rows::specs::Instant::inf))]
-fn is_single(edge: &Edge) -> bool
-    ensures { result ≡ single edge.now }
-{
-    edge.is_end() || edge.other == Time::INF
-}
 
 // Whether no end of the row is known.
 #[tactic(auto, unfolding(tw_rows::specs::Instant::inf))]
@@ -35,40 +26,6 @@ fn is_open(life: &Life) -> bool
     ensures { result ≡ nat_eq life.now.edge.other inf }
 {
     life.edge.other == Time::INF
-}
-
-// Puts an edge, which is pending until its sync is due.
-fn put(queue: &mut EndQueue, edge: Edge) -> Result<(), Memory>
-    ensures put { OnOk result ((w : Edge → ℕ) →
-        total w (queued queue.new) ≡ total w (queued queue.old) + w edge) }
-    ensures timed { OnOk result (AreTimed queue.old → AreTimed queue.new) }
-{
-    queue.put(edge.sync, edge)?;
-    Ok(())
-}
-
-// Puts an edge: of an interval its start and its end.
-fn put_singles(queue: &mut EndQueue, edge: Edge) -> Result<(), Memory>
-    ensures put { OnOk result (TakeIn (queued queue.old) (queued queue.new) (singles_of edge)) }
-    ensures timed { OnOk result (AreTimed queue.old → AreTimed queue.new) }
-{
-    if is_single(&edge) {
-        put(queue, edge)?;
-        return Ok(());
-    }
-    let end = Edge {
-        sync: edge.other,
-        other: edge.sync,
-        cells: edge.cells.clone()?,
-    };
-    let start = Edge {
-        sync: edge.sync,
-        other: Time::bounds().1,
-        cells: edge.cells,
-    };
-    put(queue, start)?;
-    put(queue, end)?;
-    Ok(())
 }
 
 /// Puts the edges of a list to the pending ones. The list is empty then.
@@ -112,7 +69,7 @@ fn put_end(queue: &mut EndQueue, life: &Life) -> Result<(), Memory>
         other: edge.sync,
         cells: edge.cells.clone()?,
     };
-    put(queue, end)?;
+    put_edge(queue, end)?;
     Ok(())
 }
 

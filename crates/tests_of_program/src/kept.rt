@@ -1,13 +1,12 @@
 // Runs that keep checkpoints, over files in memory, each of which a crash ends and the next one goes on with.
 use crate::runs::{CLOSED, CLOSING, HOP};
 use command_line::read_words;
-use durable_file::MemoryMedium;
-use kept_run::run_kept;
-use kept_wire::MemoryFileWire;
+use kept_wire::{MemoryFileWire, MemoryMedium};
 use shard_apply::OpenGate;
 use std::alloc::AllocGlobal;
 use std::process::Abort;
 use std::thread::Threads;
+use tempo_cli::run_kept;
 use tw_rows::Memory;
 use wire_lines::MemoryWire;
 

@@ -11,7 +11,7 @@ ghost use Rattle.where_select.specs.Stages.{ArePlain, IsStageOf, IsStage};
 
 use crate::{Filter, Project};
 use batch::{Batch, Pools};
-use edge_stream::EdgeList;
+use edge_stream::{EdgeList, put_last};
 use std::alloc::Global;
 use tw_rows::{Memory, TextTable};
 
@@ -72,7 +72,7 @@ impl RowStage {
         left.cursor();
         while let Some(batch) = left.take_batch() {
             let next = self.apply(pools, texts, batch)?;
-            put(&mut made, next)?;
+            put_last(&mut made, next)?;
         }
         Ok(made)
     }
@@ -166,20 +166,5 @@ fn projected(
     match project.apply(batch, pools, texts) {
         Ok(batch) => Ok(batch),
         Err(_) => unreachable!(),
-    }
-}
-
-// Puts the batch last.
-fn put(list: &mut EdgeList, batch: Batch) -> Result<(), Memory>
-    requires kinds { batch.kinds ≡ cells_of list.old }
-    requires capacity { batch.capacity ≡ list.old.capacity }
-    requires order { KeepsOrder (list.old.edges ++ edges_of batch.rows) }
-    ensures edges { OnOk result (list.new.edges ≡ list.old.edges ++ edges_of batch.rows) }
-    ensures kinds { list.new.kinds ≡ list.old.kinds }
-    ensures capacity { list.new.capacity ≡ list.old.capacity }
-{
-    match list.put_batch(batch) {
-        Ok(()) => Ok(()),
-        Err(_) => Err(Memory),
     }
 }

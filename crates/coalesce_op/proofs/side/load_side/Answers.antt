@@ -1,6 +1,6 @@
 use Rattle.edge_stream.specs.Entries.{part_of}
 use Rattle.sweep_laws.specs.Saving.{rows_of}
-use Rattle.row_queues.proofs.OpenRows.{same_rows}
+use Rattle.synopsis.proofs.OpenRows.{same_rows}
 use Rattle.sweep_sides.proofs.KeptSides.{side_loaded}
 use Rattle.coalesce_op.proofs.side.load_side.Goals as goal
 

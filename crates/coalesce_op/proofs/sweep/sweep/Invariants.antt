@@ -4,7 +4,7 @@ use Rattle.tw_rows.specs.Event.{alive}
 use Rattle.tw_rows.specs.declared.edge.HeldRow.{HeldRow}
 use Rattle.edge_history.specs.History.{CellEvent}
 use Rattle.edge_history.specs.Opens.{started_rows}
-use Rattle.row_queues.specs.Queued.{AreQueues}
+use Rattle.synopsis.specs.Queued.{AreQueues}
 use Rattle.sweep_laws.specs.Sweeps.{IsDue}
 use Rattle.coalesce_op.specs.Holding.{CoalesceReached}
 use Rattle.coalesce_op.proofs.sweep.sweep.Given as goal

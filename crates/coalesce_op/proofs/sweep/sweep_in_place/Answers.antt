@@ -5,7 +5,7 @@ use Rattle.edge_history.specs.Opens.{started_rows}
 use Rattle.tw_rows.specs.declared.edge.Edge.{Edge}
 use Rattle.edge_history.specs.Balance.{news}
 use Rattle.edge_history.specs.Order.{failing}
-use Rattle.row_queues.specs.Holding.{AreApart}
+use Rattle.synopsis.specs.Holding.{AreApart}
 use Rattle.sweep_laws.specs.Sweeps.{is_at}
 use Rattle.sweep_sides.proofs.Cutting.{starts_before}
 use Rattle.coalesce_op.specs.Coalesces.{coalesces}

@@ -1,7 +1,7 @@
 use Rattle.std.specs.Prelude.{[], ◌∷◌, ◌++◌}
 use Rattle.std.specs.List.Sorted.{IsNonDecreasing}
 use Rattle.std.proofs.Common.{refl, sym, ap, subst}
-use Rattle.row_queues.specs.Kept.{times_if}
+use Rattle.synopsis.specs.Kept.{times_if}
 use Rattle.egress.proofs.Entries.{one_rises}
 use Rattle.egress.proofs.loading.comes_after.Goals as goal
 

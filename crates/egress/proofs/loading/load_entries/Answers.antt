@@ -3,7 +3,7 @@ use Rattle.std.specs.Map.{lookup}
 use Rattle.std.proofs.Common.{ap, subst, take, drop, arith}
 use Rattle.std.proofs.lemmas.Result.{err_from_is_err_and}
 use Rattle.tw_rows.specs.SameCells.{same_cells}
-use Rattle.row_queues.specs.Kept.{times_if}
+use Rattle.synopsis.specs.Kept.{times_if}
 use Rattle.egress.specs.Saving.{IsSound}
 use Rattle.egress.proofs.Entries.{Loads, loads_first, loads_next, loads_all, starts_rise, ends_rise, sound_start, sound_other, parted, front_is, all_there}
 use Rattle.egress.proofs.loading.load_entries.Goals as goal

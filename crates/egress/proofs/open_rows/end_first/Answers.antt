@@ -2,7 +2,7 @@ use Rattle.std.specs.Prelude.{◌+◌, take}
 use Rattle.std.proofs.Common.{sym, ◌∙◌}
 use Rattle.tw_rows.specs.Cells.{read_cells}
 use Rattle.plan_model.specs.Changes.{Ended}
-use Rattle.row_queues.proofs.Ending.{next_taken, next_dropped}
+use Rattle.synopsis.proofs.Ending.{next_taken, next_dropped}
 use Rattle.egress.proofs.Ending.{mapped_more}
 use Rattle.egress.proofs.open_rows.end_first.Goals as goal
 

@@ -1,5 +1,5 @@
 use Rattle.std.proofs.Common.{subst, take}
-use Rattle.row_queues.specs.Kept.{since_at}
+use Rattle.synopsis.specs.Kept.{since_at}
 use Rattle.egress.specs.Saved.{Taken}
 use Rattle.egress.proofs.Entries.{front_is}
 use Rattle.egress.proofs.SavedEnds.{taken_none, taken_next}

@@ -1,6 +1,6 @@
 -- An entry was added for each of the edges before this one.
 use Rattle.std.proofs.Common.{take}
-use Rattle.row_queues.specs.Kept.{since_at}
+use Rattle.synopsis.specs.Kept.{since_at}
 use Rattle.egress.specs.Saved.{Taken}
 use Rattle.egress.proofs.saving.save_ends.Given as goal
 

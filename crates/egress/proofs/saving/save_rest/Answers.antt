@@ -4,7 +4,7 @@ use Rattle.std.specs.Map.{lookup, keys_of}
 use Rattle.std.proofs.Common.{◌∙◌, ap, sym, subst}
 use Rattle.tw_rows.specs.Instant.{inf}
 use Rattle.tw_rows.specs.SameCells.{same_cells}
-use Rattle.row_queues.specs.Kept.{times_if, since_at}
+use Rattle.synopsis.specs.Kept.{times_if, since_at}
 use Rattle.egress.specs.Saved.{entry_at}
 use Rattle.egress.proofs.SavedEnds.{RestSo, times_at, rest_first, rest_next, rest_last, last_own, last_others, front_apart}
 use Rattle.egress.proofs.saving.save_rest.Goals as goal

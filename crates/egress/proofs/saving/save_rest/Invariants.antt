@@ -3,7 +3,7 @@ use Rattle.std.proofs.Common.{length}
 use Rattle.std.specs.List.{IsDistinct}
 use Rattle.std.specs.Map.{keys_of}
 use Rattle.tw_rows.specs.SameCells.{same_cells}
-use Rattle.row_queues.specs.Kept.{since_at}
+use Rattle.synopsis.specs.Kept.{since_at}
 use Rattle.egress.proofs.SavedEnds.{RestSo, times_at}
 use Rattle.egress.proofs.saving.save_rest.Given as goal
 

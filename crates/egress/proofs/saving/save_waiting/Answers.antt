@@ -1,6 +1,6 @@
 use Rattle.std.specs.Prelude.{◌≡◌, ◌<◌, ℕ, None, IfSome, IfNone}
 use Rattle.std.proofs.Common.{sym, ◌∙◌, subst}
-use Rattle.row_queues.specs.Kept.{since_at}
+use Rattle.synopsis.specs.Kept.{since_at}
 use Rattle.egress.specs.Waiting.{waiting_in, ArePopped}
 use Rattle.egress.proofs.SavedInstants.{ends_first, ends_next, ends_last}
 use Rattle.egress.proofs.saving.save_waiting.Goals as goal

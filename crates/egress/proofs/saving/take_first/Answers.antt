@@ -1,6 +1,6 @@
 use Rattle.std.proofs.Common.{refl, sym, ◌∙◌, ap, take}
-use Rattle.row_queues.specs.Kept.{times_if}
-use Rattle.row_queues.proofs.Opened.{none_since, ended_since}
+use Rattle.synopsis.specs.Kept.{times_if}
+use Rattle.synopsis.proofs.Opened.{none_since, ended_since}
 use Rattle.egress.proofs.SavedEnds.{first_taken}
 use Rattle.egress.proofs.saving.take_first.Goals as goal
 

@@ -3,7 +3,7 @@ use Rattle.std.proofs.Common.{◌∙◌, ap, sym}
 use Rattle.std.proofs.lemmas.List.{append_assoc}
 use Rattle.edge_stream.specs.Entries.{entries_of}
 use Rattle.sweep_laws.specs.Saving.{starts_of}
-use Rattle.row_queues.proofs.Saved.{saved_append}
+use Rattle.synopsis.proofs.Saved.{saved_append}
 use Rattle.outer_top.specs.Ranks.{rows_in}
 use Rattle.outer_top.proofs.groups.save_groups.Goals as goal
 

@@ -2,7 +2,7 @@ use Rattle.std.proofs.Common.{◌≡◌, ◌∙◌, subst, true}
 use Rattle.tw_rows.specs.Bag.{SameBag}
 use Rattle.edge_stream.specs.Entries.{part_of}
 use Rattle.edge_stream.proofs.CarriedParts.{none_fails}
-use Rattle.row_queues.proofs.OpenRows.{same_rows}
+use Rattle.synopsis.proofs.OpenRows.{same_rows}
 use Rattle.sweep_laws.specs.Saving.{rows_of, is_row_start, are_row_starts}
 use Rattle.sweep_laws.proofs.Stored.{rows_started}
 use Rattle.sweep_sides.proofs.KeptSides.{side_loaded}

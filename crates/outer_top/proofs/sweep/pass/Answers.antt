@@ -1,7 +1,7 @@
 use Rattle.std.proofs.Common.{sym, ap, arith, subst, []}
 use Rattle.tw_rows.specs.SameCells.{same_cells}
 use Rattle.key_nodes.specs.Coalesced.{how_often}
-use Rattle.row_queues.specs.Queued.{rows_at}
+use Rattle.synopsis.specs.Queued.{rows_at}
 use Rattle.tw_rows.specs.Bag.{total}
 use Rattle.sweep_laws.specs.Queues.{AreMoves}
 use Rattle.outer_top.specs.TopKeys.{HasPassed}

@@ -1,4 +1,4 @@
-use Rattle.line_text.proofs.Pieces.{placed_at}
+use Rattle.row_reader.proofs.Pieces.{placed_at}
 use Rattle.row_reader.proofs.rows.row_of_cells.Goals as goal
 
 pub value_of_datum-requires : goal.value_of_datum-requires

@@ -20,9 +20,9 @@ returns c =
     let end : is_end e ≡ false = end_is c.is_end.result e c.is_end.ensures ∙ c.if-is_end.false in
     record {
       put = λ w.
-          let a = c.in_ok-put.ensures.put w in
+          let a = c.in_ok-put_edge.ensures.put w in
           let z = ap (λ b. total w (cond b [] (record e { sync = e.sync; other = inf; cells = e.cells } ∷ []))) end in
           let o = ap (λ n. w (record { sync = e.sync; other = n; cells = e.cells })) c.bounds.ensures.infinity in
           omega (arith, a, z, o);
-      timed = c.in_ok-put.ensures.timed;
+      timed = c.in_ok-put_edge.ensures.timed;
     }

@@ -1,6 +1,6 @@
 use Rattle.std.proofs.Common.{sym, subst}
 use Rattle.query_plan.specs.Explained.{explained}
-use Rattle.plan_cuts.specs.Told.{cut_text}
+use Rattle.query_plan.specs.Told.{cut_text}
 use Rattle.wire_lines.specs.Journal.{Grows}
 use Rattle.command_line.specs.Words.{asked_by}
 use Rattle.command_line.specs.declared.words.Mode.{Mode}

@@ -7,7 +7,7 @@ use Rattle.edge_history.proofs.Sums.{failing-parts}
 use Rattle.edge_history.proofs.Retaining.{events_of_are, same_below}
 use Rattle.edge_history.proofs.Waiting.{pending_then}
 use Rattle.edge_stream.specs.Listing.{cells_of}
-use Rattle.row_queues.proofs.Coalescing.{coalesced_told}
+use Rattle.synopsis.proofs.Coalescing.{coalesced_told}
 use Rattle.sweep_laws.proofs.Joins.{due_by_syncs}
 use Rattle.sweep_sides.specs.Waiting.{queued}
 use Rattle.sweep_sides.proofs.TakenIn.{side_taken}

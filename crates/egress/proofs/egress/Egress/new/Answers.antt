@@ -1,6 +1,6 @@
 use Rattle.std.proofs.Common.{refl, sym, ◌∙◌, ap, arith}
 use Rattle.edge_history.specs.Order.{failing}
-use Rattle.row_queues.specs.Kept.{times_if}
+use Rattle.synopsis.specs.Kept.{times_if}
 use Rattle.plan_laws.specs.RowCells.{cells_of}
 use Rattle.egress.specs.Kept.{since_in}
 use Rattle.egress.specs.Waiting.{edges_if, waiting_in}

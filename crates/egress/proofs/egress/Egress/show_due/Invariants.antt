@@ -2,7 +2,7 @@ use Rattle.std.specs.Prelude.{◌≡◌, ℕ, ◌≤◌, Bool, List}
 use Rattle.tw_rows.specs.Event.{AreEvents}
 use Rattle.tw_rows.specs.declared.cells.Datum.{Datum}
 use Rattle.edge_history.specs.History.{CellEvent}
-use Rattle.row_queues.specs.Kept.{EachIsOpen}
+use Rattle.synopsis.specs.Kept.{EachIsOpen}
 use Rattle.egress.specs.Kept.{since_in}
 use Rattle.egress.specs.Waiting.{waiting_in, pending_len}
 use Rattle.egress.specs.Output.{HasSwept, AllPassed, IsPlacedIn}

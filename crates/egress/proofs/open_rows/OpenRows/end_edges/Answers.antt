@@ -3,7 +3,7 @@ use Rattle.std.proofs.Common.{refl, ◌∙◌, subst, arith}
 use Rattle.std.proofs.lemmas.List.{length-map}
 use Rattle.tw_rows.specs.Cells.{read_cells}
 use Rattle.plan_model.specs.Changes.{Ended}
-use Rattle.row_queues.specs.Kept.{since_at}
+use Rattle.synopsis.specs.Kept.{since_at}
 use Rattle.egress.specs.Kept.{moves_of, since_in}
 use Rattle.egress.specs.Print.{print}
 use Rattle.egress.proofs.Passing.{dropped_pass}

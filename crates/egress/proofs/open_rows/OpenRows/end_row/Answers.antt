@@ -3,8 +3,8 @@ use Rattle.std.proofs.Common.{sym, ◌∙◌, ap, subst, arith}
 use Rattle.std.proofs.lemmas.Bool.{eqb-true}
 use Rattle.tw_rows.specs.Cells.{read_cells}
 use Rattle.plan_model.specs.Changes.{Line, Ended}
-use Rattle.row_queues.specs.Kept.{times_if}
-use Rattle.row_queues.proofs.Opened.{none_left, all_ended, some_ended, removed_open}
+use Rattle.synopsis.specs.Kept.{times_if}
+use Rattle.synopsis.proofs.Opened.{none_left, all_ended, some_ended, removed_open}
 use Rattle.egress.specs.Print.{print}
 use Rattle.egress.proofs.open_rows.OpenRows.end_row.Goals as goal
 

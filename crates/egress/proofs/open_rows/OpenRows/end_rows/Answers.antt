@@ -2,7 +2,7 @@ use Rattle.std.specs.Prelude.{◌≡◌, ◌++◌, map, take}
 use Rattle.std.proofs.Common.{refl, ◌∙◌, subst, arith}
 use Rattle.tw_rows.specs.Cells.{read_cells}
 use Rattle.plan_model.specs.Changes.{Ended}
-use Rattle.row_queues.specs.Kept.{since_at}
+use Rattle.synopsis.specs.Kept.{since_at}
 use Rattle.egress.specs.Kept.{since_in}
 use Rattle.egress.specs.Print.{print}
 use Rattle.egress.proofs.Passing.{dropped_pass}

@@ -1,6 +1,6 @@
 use Rattle.std.proofs.Common.{◌≡◌, Bool, List}
 use Rattle.tw_rows.specs.declared.cells.Datum.{Datum}
-use Rattle.row_queues.specs.Kept.{since_at, EachIsOpen}
+use Rattle.synopsis.specs.Kept.{since_at, EachIsOpen}
 use Rattle.egress.specs.Kept.{since_in, OpensPass}
 use Rattle.egress.proofs.Shown.{Ending}
 use Rattle.egress.proofs.open_rows.OpenRows.end_rows.Given as goal

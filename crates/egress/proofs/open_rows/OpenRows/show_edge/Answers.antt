@@ -1,4 +1,4 @@
-use Rattle.row_queues.specs.Kept.{since_at}
+use Rattle.synopsis.specs.Kept.{since_at}
 use Rattle.egress.proofs.Passing.{dropped_pass, added_pass}
 use Rattle.egress.proofs.Single.{end_line, end_open, start_line, start_open}
 use Rattle.egress.proofs.Tallied.{is_end_from, no_end_from}

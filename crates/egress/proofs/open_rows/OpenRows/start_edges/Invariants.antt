@@ -1,6 +1,6 @@
 use Rattle.std.proofs.Common.{◌≡◌, Bool, List, map}
 use Rattle.tw_rows.specs.declared.cells.Datum.{Datum}
-use Rattle.row_queues.specs.Kept.{since_at, EachIsOpen}
+use Rattle.synopsis.specs.Kept.{since_at, EachIsOpen}
 use Rattle.egress.specs.Kept.{moves_of, since_in, OpensPass, KeepCells}
 use Rattle.egress.proofs.Shown.{Starting}
 use Rattle.egress.proofs.open_rows.OpenRows.start_edges.Given as goal

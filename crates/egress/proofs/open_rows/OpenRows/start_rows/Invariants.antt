@@ -1,6 +1,6 @@
 use Rattle.std.proofs.Common.{◌≡◌, Bool, List}
 use Rattle.tw_rows.specs.declared.cells.Datum.{Datum}
-use Rattle.row_queues.specs.Kept.{since_at, EachIsOpen}
+use Rattle.synopsis.specs.Kept.{since_at, EachIsOpen}
 use Rattle.egress.specs.Kept.{since_in, OpensPass, KeepCells}
 use Rattle.egress.proofs.Shown.{Starting}
 use Rattle.egress.proofs.open_rows.OpenRows.start_rows.Given as goal

@@ -35,8 +35,8 @@ loop-batch-init c = record {
 pub apply-requires-clause-placed : goal.apply-requires-clause-placed
 apply-requires-clause-placed c = places_front c.args.texts.now c.loop-batch.left.edges (edges_of c.in-Some.batch.rows) c.take_batch.new.self.edges c.in-Some.ensures.edges c.loop-batch.invariant.left_placed
 
-pub put-requires-clause-kinds : goal.put-requires-clause-kinds
-put-requires-clause-kinds c =
+pub put_last-requires-clause-kinds : goal.put_last-requires-clause-kinds
+put_last-requires-clause-kinds c =
     let before = c.loop-batch.invariant in
     let left = c.args.left in
     let n = c.requires.stage.0 in
@@ -45,8 +45,8 @@ put-requires-clause-kinds c =
     let now = stage_same c.args.texts.now left.capacity c.in-Some.batch.capacity (cells_of left) c.in-Some.batch.kinds n c.args.self.now c.loop-batch.self (sym (c.in-Some.ensures.capacity ∙ before.left_capacity)) (sym kinds) (sym before.same) is in
     c.in_ok-next.ensures.kinds n now ∙ ap (λ ks. node_kinds n ks []) kinds ∙ sym (before.kinds n is)
 
-pub put-requires-clause-order : goal.put-requires-clause-order
-put-requires-clause-order c =
+pub put_last-requires-clause-order : goal.put_last-requires-clause-order
+put_last-requires-clause-order c =
     let before = c.loop-batch.invariant in
     let texts = c.args.texts.now in
     let left = c.args.left in
@@ -77,15 +77,15 @@ loop-batch-preserved c =
       same = c.apply.ensures.same ∙ before.same;
       made = λ n is.
           let here = stage_same texts left.capacity batch.capacity (cells_of left) batch.kinds n c.args.self.now c.loop-batch.self (sym (c.in-Some.ensures.capacity ∙ before.left_capacity)) (sym (c.in-Some.ensures.kinds ∙ ap (map cell_kind_of) before.left_kinds)) (sym before.same) is in
-          subst (IsMade texts n (before.done ++ now)) (sym c.in_ok-put.ensures.edges)
+          subst (IsMade texts n (before.done ++ now)) (sym c.in_ok-put_last.ensures.edges)
           (made_more texts left.capacity (cells_of left) n c.args.self.now is before.done c.loop-batch.made.edges now new (before.made n is) (c.in_ok-next.ensures.made n here));
-      kinds = λ n is. ap (map cell_kind_of) c.put.ensures.kinds ∙ before.kinds n is;
-      plain = λ plain. subst ArePlain (sym c.put.ensures.kinds) (before.plain plain);
-      made_placed = subst (EdgesArePlaced texts) (sym c.in_ok-put.ensures.edges) (All-append (λ e. ArePlaced texts e.cells) c.loop-batch.made.edges new before.made_placed c.in_ok-next.ensures.placed);
+      kinds = λ n is. ap (map cell_kind_of) c.put_last.ensures.shape.kinds ∙ before.kinds n is;
+      plain = λ plain. subst ArePlain (sym c.put_last.ensures.shape.kinds) (before.plain plain);
+      made_placed = subst (EdgesArePlaced texts) (sym c.in_ok-put_last.ensures.edges) (All-append (λ e. ArePlaced texts e.cells) c.loop-batch.made.edges new before.made_placed c.in_ok-next.ensures.placed);
       left_placed = places_back texts c.loop-batch.left.edges now rest c.in-Some.ensures.edges before.left_placed;
       left_kinds = c.take_batch.ensures.shape.kinds ∙ before.left_kinds;
       left_capacity = c.take_batch.ensures.shape.capacity ∙ before.left_capacity;
-      made_capacity = c.put.ensures.capacity ∙ before.made_capacity;
+      made_capacity = c.put_last.ensures.shape.capacity ∙ before.made_capacity;
       pools = c.apply.ensures.pools ∙ before.pools;
       limit = c.apply.ensures.limit ∙ before.limit;
     }

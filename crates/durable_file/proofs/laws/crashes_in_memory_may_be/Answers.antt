@@ -1,6 +1,0 @@
-use Rattle.std.proofs.Common.{◌∷◌}
-use Rattle.durable_file.proofs.Earlier.{one_of_them}
-use Rattle.durable_file.proofs.laws.crashes_in_memory_may_be.Goals as goal
-
-pub returns : goal.returns
-returns c = λ d back torn left is. one_of_them (d.file ∷ d.earlier) back torn left is

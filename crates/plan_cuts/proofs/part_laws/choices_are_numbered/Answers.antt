@@ -1,8 +1,0 @@
-use Rattle.plan_cuts.proofs.Numbers.{each_choice, each_number}
-use Rattle.plan_cuts.proofs.part_laws.choices_are_numbered.Goals as goal
-
-pub returns-clause-each : goal.returns-clause-each
-returns-clause-each c = each_choice
-
-pub returns-clause-once : goal.returns-clause-once
-returns-clause-once c = each_number

@@ -1,5 +1,0 @@
-use Rattle.plan_cuts.proofs.Cutting.{parts_cut}
-use Rattle.plan_cuts.proofs.part_laws.parts_have_their_events.Goals as goal
-
-pub returns : goal.returns
-returns c = parts_cut

@@ -1,7 +1,0 @@
--- The loop invariants and measures of gathering::moves_of.
-use Rattle.std.specs.Prelude.{◌≡◌, take, map}
-use Rattle.row_queues.specs.Counted.{as_moves}
-use Rattle.row_queues.proofs.gathering.moves_of.Given as goal
-
-abbrev pub invariant-loop-i : goal.invariant-loop-i
-invariant-loop-i l = l.moves.items ≡ map as_moves (take l.i l.fn.counted.entries)

@@ -1,5 +1,0 @@
-use Rattle.row_queues.proofs.HeldRows.{empty_map}
-use Rattle.row_queues.proofs.held.is_mapped.Goals as goal
-
-pub returns-then-is_empty : goal.returns-then-is_empty
-returns-then-is_empty c = λ h. empty_map c.args.starts.now c.args.cells.now (c.is_empty.ensures.0 c.if-is_empty.true)

@@ -1,0 +1,15 @@
+-- The row is started so often.
+use Rattle.std.specs.Prelude.{◌≡◌, ◌++◌, List, cond, replicate}
+use Rattle.tw_rows.specs.declared.cells.Datum.{Datum}
+use Rattle.tw_rows.specs.SameCells.{same_cells}
+use Rattle.sweep_laws.specs.Queues.{queue_starts}
+use Rattle.synopsis.specs.Kept.{EachIsOpen}
+use Rattle.synopsis.specs.Holding.{since_of}
+use Rattle.synopsis.proofs.held.start_often.Given as goal
+
+abbrev pub invariant-loop : goal.invariant-loop
+invariant-loop l = record {
+  since : (c : List Datum) → since_of l.held c ≡ cond (same_cells l.cells c) (since_of l.fn.held c ++ replicate l.counter l.at) (since_of l.fn.held c);
+  told : l.answer.items ≡ l.fn.answer.items ++ queue_starts l.at l.counter l.cells;
+  filled : EachIsOpen l.fn.held.starts → EachIsOpen l.held.starts;
+}
