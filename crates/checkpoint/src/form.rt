@@ -3,7 +3,7 @@ ghost use Rattle.std.specs.Prelude.{◌≡◌, ◌<◌, ◌≤◌, ◌+◌, ◌^
 ghost use Rattle.frozen_state.specs.Forms.{AreApart};
 ghost use Rattle.checkpoint.specs.Form.{form_of, head_lines, query_lines};
 
-use crate::{push_form_line, push_options_line, push_query_line};
+use crate::head::{push_form_line, push_options_line, push_query_line};
 use admission::Policy;
 use frozen_state::{PartForm, part_forms, parts_are_apart};
 use plan_model::Plan;

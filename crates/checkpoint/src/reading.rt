@@ -6,11 +6,12 @@ ghost use Rattle.frozen_state.specs.Forms.{AreApart};
 ghost use Rattle.checkpoint.specs.Steps.{State, standing, head_step, bound_step, cells_step, placed_step, place_of};
 ghost use Rattle.checkpoint.specs.Steps.{entry_step, text_step, step, opening, empty_parts, kinds_in};
 
+use crate::entry::read_entry_line;
 use crate::form::Form;
-use crate::{
-    EntryPart, is_end_line, read_bound_line, read_entry_line, read_entry_part, read_text_line,
-    read_time_line,
-};
+use crate::head::is_end_line;
+use crate::owner::{EntryPart, read_entry_part};
+use crate::progress::{read_bound_line, read_time_line};
+use crate::text::read_text_line;
 use edge_stream::Saved;
 use frozen_state::{Frozen, FrozenPart, PartForm};
 use std::alloc::{AllocFailed, Global};

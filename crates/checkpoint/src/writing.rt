@@ -7,8 +7,11 @@ ghost use Rattle.checkpoint.specs.Writing.{entries_left, ends_left, texts_left, 
 ghost use Rattle.checkpoint.specs.Writing.{lines_left, Appends, WritesLine, WritesUpTo};
 ghost use Rattle.checkpoint.specs.Writing.{LacksRoomFor, LacksRoomToFeed};
 
+use crate::entry::push_entry_line;
 use crate::form::Form;
-use crate::{push_bound_line, push_end_line, push_entry_line, push_text_line, push_time_line};
+use crate::head::push_end_line;
+use crate::progress::{push_bound_line, push_time_line};
+use crate::text::push_text_line;
 use frozen_state::{Frozen, FrozenPart};
 use tw_rows::Memory;
 

@@ -18,16 +18,10 @@ mod slicing;
 mod waiting;
 mod watermarks;
 
-pub use by_rank::ByRank;
-pub use entering::EventLine;
 pub use held_laws::{given_edges_stand, held_edges_are_given_in_order, held_edges_follow_the_rows};
-pub use held_streams::HeldStreams;
 pub use ingress::{Ingress, Refusal};
 pub use ingress_laws::{
     event_times_stay, fixed_parts_stay, kept_lines_stay_in_longer_tables, lines_fit_their_streams,
     released_edges_stand_read,
 };
 pub use list_slices::slice_end;
-pub use opens::{OpenKey, OpenStart, OpenStarts};
-pub use waiting::Waiting;
-pub use watermarks::{Watermark, Watermarks};

@@ -7,7 +7,7 @@ ghost use Rattle.query_plan.specs.Draft.{needs, has_key_twice};
 ghost use Rattle.query_plan.specs.Growing.{next_level, next_reach, near_reach, reaches_with};
 
 use crate::draft::PlannedNode;
-use crate::{key_twice, name_twice};
+use crate::schemas::{key_twice, name_twice};
 use plan_model::{MOST_COLUMNS, MOST_NODES, Node, QueryError, QueryFault, level_over, reach_over};
 
 /// Nothing, or the fault where the test fails.

@@ -10,8 +10,10 @@ ghost use Rattle.query_plan.specs.Steps.{has_average, grouped, group_step, is_to
 
 use crate::checks::needs;
 use crate::draft::PlannedNode;
+use crate::names::{aggs_of, column_of};
+use crate::schemas::{aggs_fit, averages, counted_schema, group_schema};
 use crate::steps::{StepContext, found};
-use crate::{aggs_fit, aggs_of, averages, column_of, counted_schema, group_schema, is_number};
+use crate::types::is_number;
 use plan_model::{Agg, AggList, Key, Node, QueryError, QueryFault};
 use query_text::{AggFun, NameList, QueryAgg};
 use std::alloc::Global;

@@ -22,16 +22,10 @@ mod types;
 
 pub use choosing::{CutsFault, MOST_CHOICES, cuts, first_uncut, may_be_cut};
 pub use laws::{faults_are_told_in_order, plans_keep_their_rules};
-pub use names::{aggs_of, column_of, expr_of, exprs_of, key_of, tree_exprs};
 pub use part_laws::{
     choices_are_numbered, each_node_is_cut, parts_are_undefined_together, parts_have_their_events,
     parts_have_their_rows,
 };
 pub use plan_text::explain;
 pub use planning::plan;
-pub use schemas::{
-    aggs_fit, averages, copied, counted_schema, fills_fit, group_schema, join_schema, key_twice,
-    keys_alike, name_twice, same_kinds, select_schema,
-};
 pub use told::cut_text;
-pub use types::{is_number, same_kind, tree_types, type_of, types_of};

@@ -10,9 +10,11 @@ ghost use Rattle.query_plan.specs.Steps.{anti_node, columns_alone, filled_node, 
 
 use crate::checks::needs;
 use crate::draft::PlannedNode;
+use crate::names::tree_exprs;
+use crate::schemas::fills_fit;
 use crate::sides::PlannedSides;
 use crate::steps::StepContext;
-use crate::{fills_fit, tree_exprs, tree_types};
+use crate::types::tree_types;
 use plan_model::{Expr, ExprList, ExprNode, Node, QueryError, QueryFault};
 use query_text::{NameList, TreeList};
 use std::alloc::Global;

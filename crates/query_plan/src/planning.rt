@@ -5,8 +5,8 @@ ghost use Rattle.query_plan.specs.Draft.{no_draft};
 ghost use Rattle.query_plan.specs.Planned.{stream_planned, streams_planned, step_planned, steps_planned, let_planned, lets_planned, planned};
 
 use crate::checks::needs;
-use crate::copied;
 use crate::draft::{Draft, PlannedNode};
+use crate::schemas::copied;
 use crate::steps::{StepContext, operand};
 use plan_model::{Node, Plan, QueryError, QueryFault, StreamList};
 use query_text::{Let, Pipe, Query, QueryStep};

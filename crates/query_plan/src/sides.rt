@@ -6,8 +6,8 @@ ghost use Rattle.query_plan.specs.Steps.{named_sides, are_alike, sides, joined, 
 
 use crate::checks::needs;
 use crate::draft::PlannedNode;
+use crate::schemas::{copied, group_schema, join_schema, keys_alike};
 use crate::steps::{StepContext, operand};
-use crate::{copied, group_schema, join_schema, keys_alike};
 use plan_model::{AggList, Key, Node, QueryError, QueryFault};
 use query_text::NameList;
 use std::alloc::Global;

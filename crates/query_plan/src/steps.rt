@@ -11,7 +11,9 @@ ghost use Rattle.query_plan.specs.Steps.{hop_step, session_step, step_nodes};
 
 use crate::checks::needs;
 use crate::draft::{Draft, PlannedNode};
-use crate::{copied, expr_of, exprs_of, key_of, same_kinds, select_schema, type_of, types_of};
+use crate::names::{expr_of, exprs_of, key_of};
+use crate::schemas::{copied, same_kinds, select_schema};
+use crate::types::{type_of, types_of};
 use plan_model::{Key, Node, QueryError, QueryFault};
 use query_text::{ItemList, NameList, QueryStep, Tree};
 use std::alloc::Global;

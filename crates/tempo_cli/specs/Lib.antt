@@ -1,6 +1,6 @@
--- Callers read Answers, Told, Table, Resumed, Freezing, Restoring, Summing, Jobs, Holding and Status, and of Feeding and Halting what a
--- run that keeps its state says too; and of such runs Keeping, what one has done, KeptStatus, how it ends, and Unbroken, runs that
--- crashes ended. Only private contracts cite Working, Sampled, Restored and Standing.
+-- Callers read Answers, Told, Table, Resumed, Freezing, Restoring, Summing, Jobs and Status, and of Feeding what has gone out at a
+-- line; and of runs that keep their state Keeping, what one has done, KeptStatus, how it ends, and Unbroken, runs that crashes ended.
+-- Only private contracts cite Working, Holding, Halting, Sampled, Restored and Standing.
 pub mod Answers
 pub mod Told
 pub mod Table

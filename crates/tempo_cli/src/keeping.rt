@@ -13,8 +13,11 @@ ghost use Rattle.tempo_cli.specs.Standing.{SaysSame, WhateverStands, WhateverTex
 ghost use Rattle.tempo_cli.specs.Standing.{TakesHeld, EndsHeld, HasFewer};
 ghost use Rattle.tempo_cli.specs.KeptStatus.{kept_of, KeptCounts, StaysCounted, TellsEnd};
 
+use crate::Status;
+use crate::answering::{Answering, LIMIT, PIECE, Step};
+use crate::freezing::buffer_for;
+use crate::holding::hold;
 use crate::kept_status::KeptStatus;
-use crate::{Answering, LIMIT, PIECE, Status, Step, buffer_for, hold};
 use checkpoint::{Form, Place, push_input_line, push_output_line, write_entries, write_line};
 use frozen_state::{Frozen, FrozenPart};
 use kept_wire::KeptWire;

@@ -8,8 +8,9 @@ ghost use Rattle.tempo_cli.specs.Keeping.{task_from, IsStartOf, HasState};
 ghost use Rattle.tempo_cli.specs.KeptStatus.{kept_of, KeptCounts, IsKeptNoted, IsRefusal, TellsEnd};
 
 use crate::kept_status::KeptStatus;
+use crate::running::{plan_of, status_of};
 use crate::starting::{start_again, start_first};
-use crate::{Status, note, plan_of, status_of};
+use crate::{Status, note};
 use command_line::CommandLine;
 use kept_wire::{KeptWire, ReadFault};
 use plan_model::Plan;

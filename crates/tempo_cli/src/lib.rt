@@ -20,10 +20,6 @@ mod sampling;
 mod starting;
 mod status;
 
-pub use answering::{Answering, LIMIT, LONGEST, PIECE, Step};
-pub use freezing::buffer_for;
-pub use holding::hold;
-pub use keeping::Keeper;
 pub use kept_laws::{every_crash_is_recovered, every_line_counts_once, what_is_kept_is_read_back};
 pub use kept_running::run_kept;
 pub use kept_status::KeptStatus;
@@ -32,8 +28,5 @@ pub use laws::{
     words_ask_for_one_job,
 };
 pub use notes::note;
-pub use reading::KeptState;
-pub use resuming::{Part, Restored, Restoring, take_line};
-pub use running::{options_of, plan_of, run, status_of};
-pub use sampling::Sampling;
+pub use running::run;
 pub use status::Status;

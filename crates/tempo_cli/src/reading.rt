@@ -9,7 +9,8 @@ ghost use Rattle.tempo_cli.specs.Keeping.{Places, AreLow, place_lines};
 ghost use Rattle.tempo_cli.specs.Standing.{IsReadAs, IsFrozenAs, BeginsWith, BeginsState};
 ghost use Rattle.tempo_cli.specs.KeptStatus.{IsRefused};
 
-use crate::{Status, take_line};
+use crate::Status;
+use crate::resuming::take_line;
 use checkpoint::{Form, Reader, read_input_line, read_output_line};
 use frozen_state::Frozen;
 use memchr::memchr;

@@ -10,10 +10,12 @@ ghost use Rattle.tempo_cli.specs.Standing.{Begun, StartsWith, IsWanting, HasThaw
 ghost use Rattle.tempo_cli.specs.KeptStatus.{KeptCounts, StaysCounted, TellsEnd, IsKeptAsked, IsEndedOwn};
 ghost use Rattle.tempo_cli.specs.KeptStatus.{IsRefusal};
 
+use crate::Status;
+use crate::answering::{Answering, LIMIT, LONGEST};
 use crate::keeping::Keeper;
 use crate::kept_status::KeptStatus;
 use crate::reading::{KeptState, read_state};
-use crate::{Answering, LIMIT, LONGEST, Status, options_of};
+use crate::running::options_of;
 use checkpoint::Form;
 use command_line::CommandLine;
 use kept_wire::KeptWire;

@@ -20,4 +20,3 @@ pub use fault::EngineFault;
 pub use frozen_engine::ThawFault;
 pub use ingress::slice_end;
 pub use laws::{answers_of_lines_stand, what_fits_is_a_state};
-pub use parts::Parts;
