@@ -1,4 +1,4 @@
-// The hashes of keys, by which rows are parted among shards. The values are of the offset and the prime of FNV-1a.
+// The hashes of keys that `hash_keys` puts beside the rows of a batch. The values are of the offset and the prime of FNV-1a.
 ghost use Rattle.std.specs.Prelude.{◌≡◌, [], ◌∷◌, IfOk};
 
 use batch::{Batch, Pools};
